@@ -1,0 +1,20 @@
+ghost use mathlib.Core.Path.{_≡_};
+ghost use Rattle.alu.specs.Rotations.{Turned, rotated};
+
+use crate::outcomes::Outcome;
+use isa::Flags;
+use isa::Rotation;
+
+// The accumulator turned by one bit: its eight bits, where carry takes the bit that went round, or the nine
+// bits of it and carry. The other flags stay.
+pub fn rotate(rotation: Rotation, a: u8, flags: Flags) -> Outcome
+    ensures { λ r. ⌜ r ≡ rotated rotation a flags ⌝ }
+{
+    let (value, carry) = match rotation {
+        Rotation::Left => (a.rotate_left(1), a >= 128),
+        Rotation::Right => (a.rotate_right(1), a % 2 == 1),
+        Rotation::LeftThroughCarry => (a << 1 | flags.carry as u8, a >= 128),
+        Rotation::RightThroughCarry => (a >> 1 | (flags.carry as u8) << 7, a % 2 == 1),
+    };
+    Outcome { value, flags: Flags { carry, ..flags } }
+}

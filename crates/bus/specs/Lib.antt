@@ -1,0 +1,4 @@
+pub mod Store
+pub mod Card
+pub mod Flat
+pub mod Latch

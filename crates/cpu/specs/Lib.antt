@@ -1,0 +1,5 @@
+pub mod AddressRing
+pub mod Processor
+pub mod Effects
+pub mod Faults
+pub mod Place

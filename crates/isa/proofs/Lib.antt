@@ -1,0 +1,3 @@
+pub mod Every
+mod Codes
+mod RoundTrip

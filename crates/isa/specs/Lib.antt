@@ -1,0 +1,8 @@
+pub mod RegisterFile
+pub mod Conditions
+pub mod Refusals
+pub mod Codes
+pub mod Decoding
+pub mod Encoding
+pub mod Laws
+pub mod Cycles

@@ -1,0 +1,6 @@
+pub mod Sequencing
+pub mod Situation
+pub mod States
+pub mod Transfers
+pub mod Carried
+pub mod Ticks

@@ -1,0 +1,50 @@
+ghost use mathlib.Core.Path.{_≡_};
+ghost use mathlib.Core.Bool.{true};
+ghost use Rattle.machine.specs.Situation.{situationOf};
+ghost use Rattle.runner.specs.Tallies.{nothing};
+ghost use Rattle.runner.specs.Running.{runs};
+
+use crate::tallies::count;
+use crate::tallies::ends_halt;
+use crate::tallies::Tally;
+use bus::PortCard;
+use bus::Store;
+use machine::Levels;
+use machine::Machine;
+use machine::RunKey;
+use report::Ending;
+
+// The most ticks that a run takes.
+const TICKS: u32 = 60_000;
+
+// The instruction that the first tick's interrupt jams: a restart of cell 0.
+const RESTART: u8 = 0x05;
+
+// How a run ended, and what its ticks added up to.
+#[derive(Clone, Copy)]
+pub struct Finished {
+    pub tally: Tally,
+    pub ending: Ending,
+}
+
+// Ticks with READY high until a halt ends, a tick is refused or 60,000 ticks are spent. INT is high at the
+// first tick only, and jams a restart of cell 0.
+pub fn run_to_halt<S: Store, C: PortCard>(machine: &mut Machine, key: &RunKey, store: &mut S, card: &mut C) -> Finished
+    ensures outcome { λ r. ⌜ runs 60000 true nothing (situationOf (now (machine .entry)) (cells (now (store .entry))) (rules (now (card .entry))) (state (now (card .entry)))) ≡ record { finished = r; after = situationOf (now (machine .exit)) (cells (now (store .exit))) (rules (now (card .exit))) (state (now (card .exit))) } ⌝ }
+    ensures store_frame { λ _. ⌜ S·Store .frame (now (store .exit)) ≡ S·Store .frame (now (store .entry)) ⌝ }
+    ensures card_frame { λ _. ⌜ C·PortCard .frame (now (card .exit)) ≡ C·PortCard .frame (now (card .entry)) ⌝ }
+{
+    let mut tally = Tally { instructions: 0, table_states: 0, waits: 0, idle: 0 };
+    for tick in 0..TICKS {
+        match machine.tick(key, Levels { ready: true, int: tick == 0, jam: RESTART }, store, card) {
+            Err(fault) => return Finished { tally, ending: Ending::Refused(fault.cause.number()) },
+            Ok(ticked) => {
+                tally = count(tally, &ticked);
+                if ends_halt(&ticked) {
+                    return Finished { tally, ending: Ending::Halted };
+                }
+            }
+        }
+    }
+    Finished { tally, ending: Ending::Spent }
+}

@@ -1,0 +1,55 @@
+ghost use mathlib.Core.Path.{_≡_};
+ghost use Rattle.cpu.specs.Processor.{viewOf};
+ghost use Rattle.runner.specs.TapeRun.{TapeRun, MemoryRun, reportOf};
+
+use crate::running::run_to_halt;
+use crate::running::Finished;
+use bus::FlatStore;
+use bus::FlatStoreCells;
+use bus::LatchCard;
+use bus::LatchCardPorts;
+use machine::power;
+use machine::Machine;
+use report::Outcome;
+use report::Report;
+use tape::read_tape;
+
+// Reads a tape into the memory, which is all RAM, powers up a machine over it and a latch card, all fitted and
+// zero, and runs it. A refused tape leaves the words before the fault in the memory, and no tick is made.
+pub fn run_tape(tape: &[u8], memory: &mut [u8]) -> Outcome
+    ensures { λ r. ⌜ TapeRun (now (tape .entry)) (now (memory .entry)) (now (memory .exit)) r ⌝ }
+{
+    if let Err(refusal) = read_tape(tape, memory) {
+        return Outcome::BadTape(refusal);
+    }
+    run_memory(memory)
+}
+
+// Powers up a machine over the memory and runs it.
+fn run_memory(memory: &mut [u8]) -> Outcome
+    ensures { λ r. ⌜ MemoryRun (now (memory .entry)) (now (memory .exit)) r ⌝ }
+{
+    let mut store = FlatStore { bytes: memory, fixed: 0 };
+    let mut card = LatchCard::new();
+    let (mut machine, key) = power(&store, &card);
+    let finished = run_to_halt(&mut machine, &key, &mut store, &mut card);
+    Outcome::Ran(report_of(&machine, finished))
+}
+
+// What the machine holds, and what its run came to.
+fn report_of(machine: &Machine, finished: Finished) -> Report
+    ensures { λ r. ⌜ r ≡ reportOf (viewOf (now (machine .entry) .processor)) finished ⌝ }
+{
+    let processor = machine.processor();
+    Report {
+        registers: processor.registers,
+        flags: processor.flags,
+        pc: processor.ring.pc(),
+        k: processor.ring.number(),
+        instructions: finished.tally.instructions,
+        table_states: finished.tally.table_states,
+        waits: finished.tally.waits,
+        idle: finished.tally.idle,
+        ending: finished.ending,
+    }
+}

@@ -1,0 +1,4 @@
+pub mod Endings
+pub mod Progress
+pub mod Spelling
+pub mod Unambiguous
