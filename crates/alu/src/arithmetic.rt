@@ -2,9 +2,8 @@ ghost use mathlib.Core.Path.{_≡_};
 ghost use Prim.Native.Nat.{_+_};
 ghost use Rattle.isa.specs.Conditions.{bit};
 ghost use Rattle.alu.specs.Arithmetic.{sum, difference, logical, combined, incremented, decremented};
-
-use crate::outcomes::flags_of;
 use crate::outcomes::Outcome;
+use crate::outcomes::flags_of;
 use isa::Group;
 
 // What a group makes of the accumulator and its operand: the accumulator and the flags after it. Results
@@ -21,7 +20,10 @@ pub fn combine(group: Group, a: u8, operand: u8, carry: bool) -> Outcome
         Group::And => logic(a & operand),
         Group::Xor => logic(a ^ operand),
         Group::Or => logic(a | operand),
-        Group::Compare => Outcome { value: a, flags: subtract(a, operand, false).flags },
+        Group::Compare => Outcome {
+            value: a,
+            flags: subtract(a, operand, false).flags,
+        },
     }
 }
 
@@ -30,7 +32,10 @@ pub fn increment(value: u8, carry: bool) -> Outcome
     ensures { λ r. ⌜ r ≡ incremented value carry ⌝ }
 {
     let value = value.wrapping_add(1);
-    Outcome { value, flags: flags_of(carry, value) }
+    Outcome {
+        value,
+        flags: flags_of(carry, value),
+    }
 }
 
 // One less, mod 256, with the flags of the result and the carry as it was.
@@ -38,7 +43,10 @@ pub fn decrement(value: u8, carry: bool) -> Outcome
     ensures { λ r. ⌜ r ≡ decremented value carry ⌝ }
 {
     let value = value.wrapping_sub(1);
-    Outcome { value, flags: flags_of(carry, value) }
+    Outcome {
+        value,
+        flags: flags_of(carry, value),
+    }
 }
 
 fn add(a: u8, b: u8, carry: bool) -> Outcome
@@ -46,7 +54,10 @@ fn add(a: u8, b: u8, carry: bool) -> Outcome
 {
     let value = a.wrapping_add(b).wrapping_add(carry as u8);
     let over = a as u16 + b as u16 + carry as u16 > 255;
-    Outcome { value, flags: flags_of(over, value) }
+    Outcome {
+        value,
+        flags: flags_of(over, value),
+    }
 }
 
 fn subtract(a: u8, b: u8, borrow: bool) -> Outcome
@@ -54,11 +65,17 @@ fn subtract(a: u8, b: u8, borrow: bool) -> Outcome
 {
     let value = a.wrapping_sub(b).wrapping_sub(borrow as u8);
     let under = (a as u16) < b as u16 + borrow as u16;
-    Outcome { value, flags: flags_of(under, value) }
+    Outcome {
+        value,
+        flags: flags_of(under, value),
+    }
 }
 
 fn logic(value: u8) -> Outcome
     ensures { λ r. ⌜ r ≡ logical value ⌝ }
 {
-    Outcome { value, flags: flags_of(false, value) }
+    Outcome {
+        value,
+        flags: flags_of(false, value),
+    }
 }

@@ -1,6 +1,5 @@
 ghost use mathlib.Core.Path.{_≡_};
 ghost use Rattle.alu.specs.Outcomes.{evenOnes, flagsOf};
-
 use isa::Flags;
 
 // What a register takes, and the flags after it.
@@ -14,7 +13,12 @@ pub struct Outcome {
 pub(crate) fn flags_of(carry: bool, result: u8) -> Flags
     ensures { λ r. ⌜ r ≡ flagsOf carry result ⌝ }
 {
-    Flags { carry, zero: result == 0, sign: result >= 128, parity: has_even_parity(result) }
+    Flags {
+        carry,
+        zero: result == 0,
+        sign: result >= 128,
+        parity: has_even_parity(result),
+    }
 }
 
 fn has_even_parity(result: u8) -> bool

@@ -1,6 +1,5 @@
 ghost use mathlib.Core.Path.{_≡_};
-ghost use Rattle.alu.specs.Rotations.{Turned, rotated};
-
+ghost use Rattle.alu.specs.Rotations.{turned, turning, rotated};
 use crate::outcomes::Outcome;
 use isa::Flags;
 use isa::Rotation;
@@ -10,11 +9,21 @@ use isa::Rotation;
 pub fn rotate(rotation: Rotation, a: u8, flags: Flags) -> Outcome
     ensures { λ r. ⌜ r ≡ rotated rotation a flags ⌝ }
 {
-    let (value, carry) = match rotation {
+    let (value, carry) = turn(rotation, a, flags.carry);
+    Outcome {
+        value,
+        flags: Flags { carry, ..flags },
+    }
+}
+
+// The accumulator and carry after a rotation.
+fn turn(rotation: Rotation, a: u8, carry: bool) -> (u8, bool)
+    ensures { λ r. ⌜ turned (r .0) (r .1) ≡ turning rotation a carry ⌝ }
+{
+    match rotation {
         Rotation::Left => (a.rotate_left(1), a >= 128),
         Rotation::Right => (a.rotate_right(1), a % 2 == 1),
-        Rotation::LeftThroughCarry => (a << 1 | flags.carry as u8, a >= 128),
-        Rotation::RightThroughCarry => (a >> 1 | (flags.carry as u8) << 7, a % 2 == 1),
-    };
-    Outcome { value, flags: Flags { carry, ..flags } }
+        Rotation::LeftThroughCarry => (a << 1 | carry as u8, a >= 128),
+        Rotation::RightThroughCarry => (a >> 1 | (carry as u8) << 7, a % 2 == 1),
+    }
 }

@@ -30,9 +30,11 @@ pub record FlatFrame : Type 0 where
   pub size : ℕ
   pub past : List ℕ
 
+-- the cells of a store
 abbrev pub flatCells : FlatStore → Cells
 flatCells s = flat (now (s .bytes)) (s .fixed)
 
+-- the frame of a store
 abbrev pub flatFrame : FlatStore → FlatFrame
 flatFrame s = record {
   place = name (s .bytes);

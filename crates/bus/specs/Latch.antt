@@ -19,6 +19,7 @@ isInput p = ltb p 8
 abbrev pub isOutput : ℕ → Bool
 isOutput p = leb 8 p && ltb p 32
 
+-- inputs and outputs together
 abbrev pub isPort : ℕ → Bool
 isPort p = ltb p 32
 
@@ -29,6 +30,7 @@ pub record Latches : Type 0 where
   pub offers : List ℕ
   pub outputs : List ℕ
 
+-- the state of a card
 abbrev pub latchesOf : LatchCard → Latches
 latchesOf c = record { inputs = c .inputs; offers = c .offers; outputs = c .outputs }
 

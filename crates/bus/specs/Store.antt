@@ -10,6 +10,7 @@ pub data Kind : Type 0 where
   ram : Kind
   fixed : Kind
 
+-- what a cell holds, and its kind
 pub record Cell : Type 0 where
   pub byte : ℕ
   pub kind : Kind

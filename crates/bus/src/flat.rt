@@ -10,7 +10,8 @@ use crate::stores::Written;
 const CELLS: u16 = 16384;
 
 // A store in a lent buffer. Cell n is byte n; the cells below `fixed` are fixed, and the rest RAM.
-// Cells past the buffer are fixed and hold 255. Bytes past the last cell are never touched.
+// Cells past the buffer are fixed and hold 255, so a count past the buffer leaves no RAM.
+// Bytes past the last cell are never touched.
 #[derive(Drop)]
 pub struct FlatStore<'a> {
     pub bytes: &'a mut [u8],

@@ -28,6 +28,6 @@ abbrev pub cardFault : ℕ → ℕ → Trouble → Fault
 cardFault pc cycle t = record { cause = causeOf t; layer = PortCard; pc = pc; cycle = cycle }
 
 -- A card's answer, with the place of the instruction added to its trouble.
-abbrev pub placed : ℕ → ℕ → Result ℕ Trouble → Result ℕ Fault
-placed pc cycle (Ok byte) = Ok byte
+abbrev pub placed : {A : Type 0} → ℕ → ℕ → Result A Trouble → Result A Fault
+placed pc cycle (Ok value) = Ok value
 placed pc cycle (Err t) = Err (cardFault pc cycle t)

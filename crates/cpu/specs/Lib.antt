@@ -1,4 +1,5 @@
 pub mod AddressRing
+pub mod Nesting
 pub mod Processor
 pub mod Effects
 pub mod Faults

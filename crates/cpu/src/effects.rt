@@ -1,13 +1,12 @@
 ghost use mathlib.Core.Path.{_≡_};
 ghost use Rattle.cpu.specs.Processor.{viewOf};
 ghost use Rattle.cpu.specs.Effects.{targetOf, countingUp, countingDown, combining, rotating, finished};
-
 use crate::processors::Processor;
+use alu::Outcome;
 use alu::combine;
 use alu::decrement;
 use alu::increment;
 use alu::rotate;
-use alu::Outcome;
 use isa::Group;
 use isa::Instruction;
 use isa::Operand;
@@ -26,7 +25,8 @@ impl Processor {
                 let byte = self.registers.get(s);
                 self.registers.set(d, byte);
             }
-            Instruction::LoadMemory(d) | Instruction::LoadImmediate(d) => self.registers.set(d, low),
+            Instruction::LoadMemory(d) | Instruction::LoadImmediate(d) => self.registers
+                .set(d, low),
             Instruction::StoreMemory(_) | Instruction::StoreImmediate | Instruction::Output(_) => {}
             Instruction::Increment(d) => self.count_up(d),
             Instruction::Decrement(d) => self.count_down(d),
@@ -36,9 +36,15 @@ impl Processor {
             }
             Instruction::Arithmetic(group, _) => self.combine(group, low),
             Instruction::Rotate(rotation) => self.rotate(rotation),
-            Instruction::Jump(_) => if taken { self.ring = self.ring.jump(target(low, high)); },
-            Instruction::Call(_) => if taken { self.ring = self.ring.call(target(low, high)); },
-            Instruction::Return(_) => if taken { self.ring = self.ring.come_back(); },
+            Instruction::Jump(_) => if taken {
+                self.ring = self.ring.jump(target(low, high));
+            },
+            Instruction::Call(_) => if taken {
+                self.ring = self.ring.call(target(low, high));
+            },
+            Instruction::Return(_) => if taken {
+                self.ring = self.ring.come_back();
+            },
             Instruction::Restart(a) => self.ring = self.ring.call(8 * u16::from(a)),
             Instruction::Input(_) => self.registers.a = low,
             Instruction::Halt => self.stopped = true,

@@ -1,6 +1,5 @@
 ghost use mathlib.Core.Path.{_≡_};
 ghost use Rattle.cpu.specs.Faults.{causeNumber, decoderFault, cardFault, placed};
-
 use bus::Trouble;
 
 // Why an instruction is refused.
@@ -49,7 +48,12 @@ impl Fault {
     pub fn in_decoder(pc: u16) -> Fault
         ensures { λ r. ⌜ r ≡ decoderFault pc ⌝ }
     {
-        Fault { cause: Cause::NoInstruction, layer: Layer::Decoder, pc, cycle: 1 }
+        Fault {
+            cause: Cause::NoInstruction,
+            layer: Layer::Decoder,
+            pc,
+            cycle: 1,
+        }
     }
 
     // The port card's trouble with the instruction that starts at `pc`, in this cycle of it.
@@ -60,15 +64,20 @@ impl Fault {
             Trouble::NoCard => Cause::NoCard,
             Trouble::Spent => Cause::Spent,
         };
-        Fault { cause, layer: Layer::PortCard, pc, cycle }
+        Fault {
+            cause,
+            layer: Layer::PortCard,
+            pc,
+            cycle,
+        }
     }
 
     // The answer of a port card, with the place of the instruction added to its trouble, if any.
-    pub fn place(answer: Result<u8, Trouble>, pc: u16, cycle: u8) -> Result<u8, Fault>
+    pub fn place<T>(answer: Result<T, Trouble>, pc: u16, cycle: u8) -> Result<T, Fault>
         ensures { λ r. ⌜ r ≡ placed pc cycle answer ⌝ }
     {
         match answer {
-            Ok(byte) => Ok(byte),
+            Ok(value) => Ok(value),
             Err(trouble) => Err(Fault::in_card(trouble, pc, cycle)),
         }
     }

@@ -1,6 +1,5 @@
 ghost use mathlib.Core.Path.{_≡_};
 ghost use Rattle.cpu.specs.Processor.{viewOf, powered};
-
 use crate::address_ring::AddressRing;
 use isa::Flags;
 use isa::Registers;
@@ -20,8 +19,21 @@ impl Processor {
         ensures { λ r. ⌜ viewOf r ≡ powered ⌝ }
     {
         Processor {
-            registers: Registers { a: 0, b: 0, c: 0, d: 0, e: 0, h: 0, l: 0 },
-            flags: Flags { carry: false, zero: false, sign: false, parity: false },
+            registers: Registers {
+                a: 0,
+                b: 0,
+                c: 0,
+                d: 0,
+                e: 0,
+                h: 0,
+                l: 0,
+            },
+            flags: Flags {
+                carry: false,
+                zero: false,
+                sign: false,
+                parity: false,
+            },
             ring: AddressRing::new(),
             stopped: true,
         }

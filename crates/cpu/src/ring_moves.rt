@@ -1,7 +1,6 @@
 ghost use mathlib.Core.Path.{_≡_};
 ghost use Prim.Native.Nat.{_<_};
 ghost use Rattle.cpu.specs.AddressRing.{ringOf, zeroRing, pcOf, withPc, advanced, jumped, called, returned};
-
 use crate::address_ring::AddressRing;
 
 impl AddressRing {
@@ -9,7 +8,10 @@ impl AddressRing {
     pub fn new() -> AddressRing
         ensures { λ r. ⌜ ringOf r ≡ zeroRing ⌝ }
     {
-        AddressRing { registers: [0; 8], number: 0 }
+        AddressRing {
+            registers: [0; 8],
+            number: 0,
+        }
     }
 
     // The program counter.
@@ -61,7 +63,10 @@ impl AddressRing {
         ensures { λ r. ⌜ ringOf r ≡ returned (ringOf self) ⌝ }
     {
         let registers = self.registers;
-        AddressRing { registers, number: (self.number + 7) % 8 }
+        AddressRing {
+            registers,
+            number: (self.number + 7) % 8,
+        }
     }
 
     // The register with this number takes the address, taken mod 16,384, and is the program counter.

@@ -1,8 +1,7 @@
 ghost use mathlib.Core.Path.{_≡_};
 ghost use mathlib.Core.Bool.{Bool};
-ghost use Prim.Native.Nat.{_≤_};
+ghost use Prim.Native.Nat.{_<_, _≤_};
 ghost use Rattle.isa.specs.Cycles.{cycleNumber, takenUnder, transferIn, kindIn, statesIn, tableStates, Moves-if-it-has-states};
-
 use crate::conditions::Flags;
 use crate::instructions::Instruction;
 use crate::instructions::Operand;
@@ -62,7 +61,9 @@ impl Instruction {
         ensures { λ r. ⌜ r ≡ takenUnder self (now (flags .entry)) ⌝ }
     {
         match self {
-            Instruction::Jump(condition) | Instruction::Call(condition) | Instruction::Return(condition) => flags.meet(condition),
+            Instruction::Jump(condition)
+            | Instruction::Call(condition)
+            | Instruction::Return(condition) => flags.meet(condition),
             _ => true,
         }
     }
@@ -84,7 +85,9 @@ impl Instruction {
         ensures where_there_are_states { λ r. ⌜ Moves-if-it-has-states self Cycle.Second r ⌝ }
     {
         match self {
-            Instruction::LoadMemory(_) | Instruction::Arithmetic(_, Operand::Memory) => Some(Transfer::Read),
+            Instruction::LoadMemory(_) | Instruction::Arithmetic(_, Operand::Memory) => Some(
+                Transfer::Read,
+            ),
             Instruction::StoreMemory(s) => Some(Transfer::WriteRegister(s)),
             Instruction::LoadImmediate(_)
             | Instruction::StoreImmediate
@@ -115,7 +118,9 @@ impl Instruction {
         match (cycle, self.transfer(cycle)) {
             (Cycle::First, _) => Some(CycleKind::Pci),
             (_, Some(Transfer::Fetch | Transfer::Read)) => Some(CycleKind::Pcr),
-            (_, Some(Transfer::WriteRegister(_) | Transfer::WriteImmediate)) => Some(CycleKind::Pcw),
+            (_, Some(Transfer::WriteRegister(_) | Transfer::WriteImmediate)) => Some(
+                CycleKind::Pcw,
+            ),
             (_, Some(Transfer::Input(_) | Transfer::Output(_))) => Some(CycleKind::Pcc),
             (_, None) => None,
         }
@@ -124,7 +129,8 @@ impl Instruction {
     // The states of the cycle: 3, 4 or 5, and 0 where the instruction has no such cycle.
     pub fn states(self, taken: bool, cycle: Cycle) -> u8
         ensures value { λ r. ⌜ r ≡ statesIn self taken cycle ⌝ }
-        ensures few { λ r. ⌜ r ≤ 5 ⌝ }
+        ensures at_most_five { λ r. ⌜ r ≤ 5 ⌝ }
+        ensures none_or_three { λ r. ⌜ (0 < r → 3 ≤ r) ⌝ }
     {
         match (self, cycle) {
             (Instruction::Halt | Instruction::StoreMemory(_), Cycle::First) => 4,
@@ -139,10 +145,27 @@ impl Instruction {
                 Cycle::First,
             ) => 5,
             (_, Cycle::First) => 3,
-            (Instruction::StoreMemory(_) | Instruction::StoreImmediate | Instruction::Jump(_) | Instruction::Call(_) | Instruction::Output(_), Cycle::Second) => 3,
-            (Instruction::LoadMemory(_) | Instruction::LoadImmediate(_) | Instruction::Arithmetic(_, Operand::Memory | Operand::Immediate) | Instruction::Input(_), Cycle::Second) => 5,
+            (
+                Instruction::StoreMemory(_)
+                | Instruction::StoreImmediate
+                | Instruction::Jump(_)
+                | Instruction::Call(_)
+                | Instruction::Output(_),
+                Cycle::Second,
+            ) => 3,
+            (
+                Instruction::LoadMemory(_)
+                | Instruction::LoadImmediate(_)
+                | Instruction::Arithmetic(_, Operand::Memory | Operand::Immediate)
+                | Instruction::Input(_),
+                Cycle::Second,
+            ) => 5,
             (Instruction::StoreImmediate, Cycle::Third) => 3,
-            (Instruction::Jump(_) | Instruction::Call(_), Cycle::Third) => if taken { 5 } else { 3 },
+            (Instruction::Jump(_) | Instruction::Call(_), Cycle::Third) => if taken {
+                5
+            } else {
+                3
+            },
             _ => 0,
         }
     }
@@ -151,6 +174,8 @@ impl Instruction {
     pub fn table_states(self, taken: bool) -> u8
         ensures { λ r. ⌜ r ≡ tableStates self taken ⌝ }
     {
-        self.states(taken, Cycle::First) + self.states(taken, Cycle::Second) + self.states(taken, Cycle::Third)
+        self.states(taken, Cycle::First)
+            + self.states(taken, Cycle::Second)
+            + self.states(taken, Cycle::Third)
     }
 }

@@ -4,7 +4,6 @@ ghost use Rattle.isa.specs.RegisterFile.{registerOf};
 ghost use Rattle.isa.specs.Conditions.{conditionOf};
 ghost use Rattle.isa.specs.Decoding.{groupOf, operandOf, rotationOf, byFields, quarter0, quarter1, quarter3, decoded};
 ghost use Rattle.isa.specs.Laws.{In-table, Only-one, Encodes-back};
-
 use crate::conditions::Condition;
 use crate::conditions::Flag;
 use crate::instructions::Group;
@@ -21,8 +20,16 @@ pub fn decode(code: u8) -> Option<Instruction>
     ensures only_one { λ r. ⌜ Only-one code r ⌝ }
     ensures encodes_back { λ r. ⌜ Encodes-back code r ⌝ }
 {
+    obey_table(code);
     by_fields(code / 64, code / 2 % 32, code / 8 % 8, code % 8)
 }
+
+// The proof that decoding keeps to the instruction table at this byte. It does nothing.
+fn obey_table(code: u8)
+    ensures in_table { λ _. ⌜ In-table code (decoded code) ⌝ }
+    ensures only_one { λ _. ⌜ Only-one code (decoded code) ⌝ }
+    ensures encodes_back { λ _. ⌜ Encodes-back code (decoded code) ⌝ }
+{}
 
 // The byte hh mmm lll, whose bits 5 to 1 are the port.
 fn by_fields(high: u8, port: u8, middle: u8, low: u8) -> Option<Instruction>
@@ -46,7 +53,11 @@ fn in_quarter_0(middle: u8, low: u8) -> Option<Instruction>
         (7, 0 | 1) => None,
         (d, 0) => Some(Instruction::Increment(register(d))),
         (d, 1) => Some(Instruction::Decrement(register(d))),
-        (r, 2) => if r < 4 { Some(Instruction::Rotate(rotation(r))) } else { None },
+        (r, 2) => if r < 4 {
+            Some(Instruction::Rotate(rotation(r)))
+        } else {
+            None
+        },
         (c, 3) => Some(Instruction::Return(condition(c))),
         (p, 4) => Some(Instruction::Arithmetic(group(p), Operand::Immediate)),
         (a, 5) => Some(Instruction::Restart(a)),
@@ -65,7 +76,11 @@ fn in_quarter_1(port: u8, middle: u8, low: u8) -> Instruction
         2 => Instruction::Call(condition(middle)),
         4 => Instruction::Jump(Condition::Always),
         6 => Instruction::Call(Condition::Always),
-        _ => if port < 8 { Instruction::Input(port) } else { Instruction::Output(port) },
+        _ => if port < 8 {
+            Instruction::Input(port)
+        } else {
+            Instruction::Output(port)
+        },
     }
 }
 
@@ -116,7 +131,11 @@ fn operand(code: u8) -> Operand
     requires { ⌜ code < 8 ⌝ }
     ensures { λ r. ⌜ r ≡ operandOf code ⌝ }
 {
-    if code == 7 { Operand::Memory } else { Operand::Register(register(code)) }
+    if code == 7 {
+        Operand::Memory
+    } else {
+        Operand::Register(register(code))
+    }
 }
 
 fn rotation(code: u8) -> Rotation

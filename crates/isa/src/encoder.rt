@@ -3,7 +3,6 @@ ghost use Prim.Native.Nat.{_<_};
 ghost use Rattle.isa.specs.Codes.{bits};
 ghost use Rattle.isa.specs.Encoding.{conditional, arithmeticCode, encoded};
 ghost use Rattle.isa.specs.Laws.{Decodes-back};
-
 use crate::conditions::Condition;
 use crate::instructions::Group;
 use crate::instructions::Instruction;
@@ -18,8 +17,14 @@ pub fn encode(instruction: Instruction) -> Result<u8, Refusal>
     ensures value { λ r. ⌜ r ≡ encoded instruction ⌝ }
     ensures decodes_back { λ r. ⌜ Decodes-back instruction r ⌝ }
 {
+    obey_table(instruction);
     plain_code(instruction)
 }
+
+// The proof that encoding keeps to the instruction table at this instruction. It does nothing.
+fn obey_table(instruction: Instruction)
+    ensures { λ _. ⌜ Decodes-back instruction (encoded instruction) ⌝ }
+{}
 
 fn plain_code(instruction: Instruction) -> Result<u8, Refusal>
     ensures { λ r. ⌜ r ≡ encoded instruction ⌝ }
@@ -30,7 +35,9 @@ fn plain_code(instruction: Instruction) -> Result<u8, Refusal>
         Instruction::StoreMemory(s) => Ok(code(3, 7, s as u8)),
         Instruction::LoadImmediate(d) => Ok(code(0, d as u8, 6)),
         Instruction::StoreImmediate => Ok(code(0, 7, 6)),
-        Instruction::Increment(Register::A) | Instruction::Decrement(Register::A) => Err(Refusal::NoInstruction),
+        Instruction::Increment(Register::A) | Instruction::Decrement(Register::A) => Err(
+            Refusal::NoInstruction,
+        ),
         Instruction::Increment(d) => Ok(code(0, d as u8, 0)),
         Instruction::Decrement(d) => Ok(code(0, d as u8, 1)),
         Instruction::Arithmetic(group, operand) => Ok(arithmetic_code(group, operand)),
@@ -38,9 +45,21 @@ fn plain_code(instruction: Instruction) -> Result<u8, Refusal>
         Instruction::Jump(condition) => Ok(conditional_code(1, condition, 4, 0)),
         Instruction::Call(condition) => Ok(conditional_code(1, condition, 6, 2)),
         Instruction::Return(condition) => Ok(conditional_code(0, condition, 7, 3)),
-        Instruction::Restart(a) => if a < 8 { Ok(code(0, a, 5)) } else { Err(Refusal::NoInstruction) },
-        Instruction::Input(m) => if m < 8 { Ok(64 + 2 * m + 1) } else { Err(Refusal::NoInstruction) },
-        Instruction::Output(m) => if m >= 8 && m < 32 { Ok(64 + 2 * m + 1) } else { Err(Refusal::NoInstruction) },
+        Instruction::Restart(a) => if a < 8 {
+            Ok(code(0, a, 5))
+        } else {
+            Err(Refusal::NoInstruction)
+        },
+        Instruction::Input(m) => if m < 8 {
+            Ok(64 + 2 * m + 1)
+        } else {
+            Err(Refusal::NoInstruction)
+        },
+        Instruction::Output(m) => if m >= 8 && m < 32 {
+            Ok(64 + 2 * m + 1)
+        } else {
+            Err(Refusal::NoInstruction)
+        },
         Instruction::Halt => Ok(0),
     }
 }

@@ -1,7 +1,7 @@
 ghost use mathlib.Core.Path.{_≡_};
 ghost use Rattle.isa.specs.Refusals.{refusalNumber};
 
-// Why a code or an instruction is refused: the instruction table lacks it.
+// Why an instruction is not encoded: the instruction table lacks it.
 #[derive(Clone, Copy)]
 pub enum Refusal {
     NoInstruction,

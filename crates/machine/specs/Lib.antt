@@ -4,3 +4,5 @@ pub mod States
 pub mod Transfers
 pub mod Carried
 pub mod Ticks
+pub mod TickLaws
+pub mod WholeInstruction

@@ -1,6 +1,6 @@
 -- How the states of an instruction follow each other, by the cycle table.
 use Prim.Native.Nat.{ℕ, _+_}
-use mathlib.Core.Bool.{Bool, true, false, cond}
+use mathlib.Core.Bool.{Bool, true, false, cond, _&&_}
 use lib.Dec.{ltb}
 use Rattle.isa.specs.declared.instructions.Instruction.{Instruction}
 use Rattle.isa.specs.declared.cycles.Cycle.{Cycle}
@@ -47,3 +47,47 @@ statesInHand Start = 0
 statesInHand (Opens o) = 1
 statesInHand (Opened o) = 2
 statesInHand (Goes w) = cyclesBefore (w .instruction) (w .taken) (w .cycle) + phasesBefore (w .next)
+
+-- The instruction under way, with another state coming next.
+abbrev pub turnsTo : Underway → Cycle → Phase → Underway
+turnsTo w cycle next = record {
+  instruction = w .instruction;
+  start = w .start;
+  taken = w .taken;
+  cycle = cycle;
+  next = next;
+  address = w .address;
+  low = w .low;
+  high = w .high;
+}
+
+abbrev pub handAfter : Underway → Following → InHand
+handAfter w (Then next) = Goes (turnsTo w (w .cycle) next)
+handAfter w (Enter cycle) = Goes (turnsTo w cycle T1)
+handAfter w End = Start
+
+-- T1, T2 and T3 of cycle one come before the first byte is taken.
+abbrev pub afterOpening : Cycle → Phase → Bool
+afterOpening First T1 = false
+afterOpening First T2 = false
+afterOpening First T3 = false
+afterOpening First T4 = true
+afterOpening First T5 = true
+afterOpening Second next = true
+afterOpening Third next = true
+
+-- An instruction under way stands before a state that its cycle has, and its first byte is taken.
+abbrev pub sound : InHand → Bool
+sound Start = true
+sound (Opens o) = true
+sound (Opened o) = true
+sound (Goes w) =
+    ltb (phasesBefore (w .next)) (statesIn (w .instruction) (w .taken) (w .cycle)) && afterOpening (w .cycle) (w .next)
+
+-- Where T1 or T2 comes next, the hand is sound; T3 of cycle one may come next too.
+abbrev pub soundUpTo : Phase → Underway → Bool
+soundUpTo T1 w = sound (Goes w)
+soundUpTo T2 w = sound (Goes w)
+soundUpTo T3 w = true
+soundUpTo T4 w = true
+soundUpTo T5 w = true

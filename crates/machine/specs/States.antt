@@ -16,8 +16,6 @@ use Rattle.cpu.specs.Effects.{finished}
 use Rattle.machine.specs.declared.ticks.State.{State}
 use Rattle.machine.specs.declared.ticks.State.the-variants as state
 use Rattle.machine.specs.declared.ticks.Ticked.{Ticked}
-use Rattle.machine.specs.declared.in_hand.Phase.{Phase}
-use Rattle.machine.specs.declared.in_hand.Phase.the-variants.{T1}
 use Rattle.machine.specs.declared.in_hand.Opening.{Opening}
 use Rattle.machine.specs.declared.in_hand.Underway.{Underway}
 use Rattle.machine.specs.declared.in_hand.InHand.{InHand}
@@ -25,7 +23,7 @@ use Rattle.machine.specs.declared.in_hand.InHand.the-variants.{Start, Opening 
 use Rattle.machine.specs.declared.sequencing.Following.{Following}
 use Rattle.machine.specs.declared.sequencing.Following.the-variants.{Phase as Then, Cycle as Enter, End}
 use Rattle.machine.specs.declared.machines.Machine.{Machine}
-use Rattle.machine.specs.Sequencing.{following}
+use Rattle.machine.specs.Sequencing.{following, handAfter}
 
 -- What a state tells, and the hand and the processor after it.
 pub record Quiet : Type 0 where
@@ -76,23 +74,6 @@ tells s w ended = record {
   kind = kindIn (w .instruction) (w .cycle);
   ended = ended;
 }
-
-abbrev pub turnsTo : Underway → Cycle → Phase → Underway
-turnsTo w cycle next = record {
-  instruction = w .instruction;
-  start = w .start;
-  taken = w .taken;
-  cycle = cycle;
-  next = next;
-  address = w .address;
-  low = w .low;
-  high = w .high;
-}
-
-abbrev pub handAfter : Underway → Following → InHand
-handAfter w (Then next) = Goes (turnsTo w (w .cycle) next)
-handAfter w (Enter cycle) = Goes (turnsTo w cycle T1)
-handAfter w End = Start
 
 -- Registers, flags, ring number and stopped mark change in the instruction's last state alone.
 abbrev pub processorAfter : Underway → Following → View → View
@@ -161,21 +142,24 @@ having w got = record {
   high = highWith (w .cycle) got (w .high);
 }
 
+abbrev pub isHalt : Instruction → Bool
+isHalt (Load d s) = false
+isHalt (LoadMemory d) = false
+isHalt (StoreMemory s) = false
+isHalt (LoadImmediate d) = false
+isHalt StoreImmediate = false
+isHalt (Increment d) = false
+isHalt (Decrement d) = false
+isHalt (Arithmetic p o) = false
+isHalt (Rotate r) = false
+isHalt (Jump c) = false
+isHalt (Call c) = false
+isHalt (Return c) = false
+isHalt (Restart a) = false
+isHalt (Input m) = false
+isHalt (Output m) = false
+isHalt Halt = true
+
 -- The fourth state of a halt is STOPPED, which looks at no level.
 abbrev pub fourthState : Instruction → State
-fourthState (Load d s) = state.T4
-fourthState (LoadMemory d) = state.T4
-fourthState (StoreMemory s) = state.T4
-fourthState (LoadImmediate d) = state.T4
-fourthState StoreImmediate = state.T4
-fourthState (Increment d) = state.T4
-fourthState (Decrement d) = state.T4
-fourthState (Arithmetic p o) = state.T4
-fourthState (Rotate r) = state.T4
-fourthState (Jump c) = state.T4
-fourthState (Call c) = state.T4
-fourthState (Return c) = state.T4
-fourthState (Restart a) = state.T4
-fourthState (Input m) = state.T4
-fourthState (Output m) = state.T4
-fourthState Halt = state.Stopped
+fourthState i = cond (isHalt i) state.Stopped state.T4

@@ -65,7 +65,7 @@ opened false jam o p = quietly p (waitsOpened o (p .processor))
 
 -- T3 of a later cycle has its one transfer.
 abbrev pub transferred : {S : Type 0} → Underway → Place S → Result (Moved S) Trouble → Outcome S
-transferred w p (Ok moved) = quietly (moved .place) (proceeds state.T3 (having w (moved .got)) (moved .place .processor))
+transferred w p (Ok moved) = quietly (moved .place) (proceeds state.T3 (having w (moved .got)) (p .processor))
 transferred w p (Err trouble) = refused (Goes w) p (cardFault (w .start) (cycleNumber (w .cycle)) trouble)
 
 abbrev pub transfers : {S : Type 0} → Bool → Underway → Place S → Outcome S

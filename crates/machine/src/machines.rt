@@ -1,3 +1,6 @@
+ghost use mathlib.Core.Path.{_≡_};
+ghost use mathlib.Core.Bool.{true};
+ghost use Rattle.machine.specs.Sequencing.{sound as soundly};
 use crate::in_hand::InHand;
 use cpu::Processor;
 
@@ -6,4 +9,5 @@ use cpu::Processor;
 pub struct Machine {
     pub(crate) processor: Processor,
     pub(crate) hand: InHand,
+    ghost sound: { soundly hand ≡ true },
 }

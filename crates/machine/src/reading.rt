@@ -1,6 +1,5 @@
 ghost use mathlib.Core.Path.{_≡_};
 ghost use Rattle.machine.specs.Sequencing.{statesInHand};
-
 use crate::in_hand::InHand;
 use crate::in_hand::Phase;
 use crate::in_hand::Underway;

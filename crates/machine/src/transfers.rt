@@ -2,7 +2,6 @@ ghost use mathlib.Core.Path.{_≡_};
 ghost use Rattle.cpu.specs.Place.{placeOf};
 ghost use Rattle.machine.specs.Transfers.{moves};
 ghost use Rattle.machine.specs.Carried.{CarriedOut};
-
 use bus::PortCard;
 use bus::Store;
 use bus::Trouble;
@@ -28,7 +27,10 @@ pub(crate) fn carry_out<S: Store, C: PortCard>(
         Some(Transfer::Fetch) => Ok(store.read(address)),
         Some(Transfer::Read) => Ok(store.read(processor.registers.memory_address())),
         Some(Transfer::WriteRegister(register)) => {
-            let _ = store.write(processor.registers.memory_address(), processor.registers.get(register));
+            let _ = store.write(
+                processor.registers.memory_address(),
+                processor.registers.get(register),
+            );
             Ok(0)
         }
         Some(Transfer::WriteImmediate) => {

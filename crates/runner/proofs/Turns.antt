@@ -8,19 +8,20 @@ use Rattle.std.specs.declared.result.Result.the-variants.{Ok, Err}
 use Rattle.std.proofs.shelf.Tests.{ne-eqb}
 use Rattle.cpu.specs.declared.faults.Fault.{Fault}
 use Rattle.cpu.specs.Faults.{causeNumber}
+use Rattle.machine.specs.declared.ticks.Levels.{Levels}
 use Rattle.machine.specs.declared.ticks.Ticked.{Ticked}
 use Rattle.machine.specs.Situation.{Situation}
 use Rattle.machine.specs.Ticks.{Outcome, ticked}
 use Rattle.report.specs.declared.summary.Ending.the-variants.{Halted, Spent, Refused}
 use Rattle.runner.specs.declared.tallies.Tally.{Tally}
 use Rattle.runner.specs.Tallies.{counted, halts}
-use Rattle.runner.specs.Running.{Ran, levels, ends, runs}
+use Rattle.runner.specs.Running.{Ran, levelsAt, ends, runs}
 
 -- What a run comes to, by the outcome of its next tick.
 abbrev turn : {S : Type 0} → ℕ → Tally → Outcome S → Ran S
 turn n t o =
     elim (o .answer) [
-      Ok x ↦ cond (halts x) (ends (counted t x) Halted (o .after)) (runs n false (counted t x) (o .after))
+      | Ok x ↦ cond (halts x) (ends (counted t x) Halted (o .after)) (runs n false (counted t x) (o .after))
       | Err f ↦ ends t (Refused (causeNumber (f .cause))) (o .after)
     ]
 
@@ -28,30 +29,30 @@ turn n t o =
 left : (all i : ℕ) → i < all → all - i ≡ suc (all - (i + 1))
 left all i h = omega arith
 
-next : {S : Type 0} (all i : ℕ) (first : Bool) (t : Tally) (s : Situation S) (o : Outcome S) → i < all → ticked (levels first) s ≡ o →
+next : {S : Type 0} (all i : ℕ) (first : Bool) (l : Levels) (t : Tally) (s : Situation S) (o : Outcome S) → i < all → l ≡ levelsAt first → ticked l s ≡ o →
     runs (all - i) first t s ≡ turn (all - (i + 1)) t o
 unfolding runs
-next all i first t s o h e = rw (left all i h) (ap (turn (all - (i + 1)) t) e)
+next all i first l t s o h k e = rw (left all i h) (ap (λ m. turn (all - (i + 1)) t (ticked m s)) (sym k) ∙ ap (turn (all - (i + 1)) t) e)
 
 -- Only the first tick is the first.
 later : (i : ℕ) → false ≡ eqb (i + 1) 0
 later i = sym (ne-eqb (i + 1) 0 (λ e. omega arith))
 
-pub goes-on : {S : Type 0} (all i : ℕ) (first : Bool) (t u : Tally) (s after : Situation S) (x : Ticked) → i < all →
-    ticked (levels first) s ≡ record { answer = Ok x; after = after } → u ≡ counted t x → halts x ≡ false →
+pub goes-on : {S : Type 0} (all i : ℕ) (first : Bool) (l : Levels) (t u : Tally) (s after : Situation S) (x : Ticked) → i < all →
+    l ≡ levelsAt first → ticked l s ≡ record { answer = Ok x; after = after } → u ≡ counted t x → halts x ≡ false →
     runs (all - i) first t s ≡ runs (all - (i + 1)) (eqb (i + 1) 0) u after
-goes-on all i first t u s after x h e c k =
-    next all i first t s _ h e ∙ rw (k, ← c) (ap (λ b. runs (all - (i + 1)) b u after) (later i))
+goes-on all i first l t u s after x h v e c k =
+    next all i first l t s _ h v e ∙ rw (k, ← c) (ap (λ b. runs (all - (i + 1)) b u after) (later i))
 
-pub halt-ends : {S : Type 0} (all i : ℕ) (first : Bool) (t u : Tally) (s after : Situation S) (x : Ticked) → i < all →
-    ticked (levels first) s ≡ record { answer = Ok x; after = after } → u ≡ counted t x → halts x ≡ true →
+pub halt-ends : {S : Type 0} (all i : ℕ) (first : Bool) (l : Levels) (t u : Tally) (s after : Situation S) (x : Ticked) → i < all →
+    l ≡ levelsAt first → ticked l s ≡ record { answer = Ok x; after = after } → u ≡ counted t x → halts x ≡ true →
     runs (all - i) first t s ≡ ends u Halted after
-halt-ends all i first t u s after x h e c k = next all i first t s _ h e ∙ rw (k, ← c)
+halt-ends all i first l t u s after x h v e c k = next all i first l t s _ h v e ∙ rw (k, ← c)
 
-pub refused : {S : Type 0} (all i : ℕ) (first : Bool) (t : Tally) (s after : Situation S) (f : Fault) (number : ℕ) → i < all →
-    ticked (levels first) s ≡ record { answer = Err f; after = after } → number ≡ causeNumber (f .cause) →
+pub refused : {S : Type 0} (all i : ℕ) (first : Bool) (l : Levels) (t : Tally) (s after : Situation S) (f : Fault) (number : ℕ) → i < all →
+    l ≡ levelsAt first → ticked l s ≡ record { answer = Err f; after = after } → number ≡ causeNumber (f .cause) →
     runs (all - i) first t s ≡ ends t (Refused number) after
-refused all i first t s after f number h e c = next all i first t s _ h e ∙ rw c
+refused all i first l t s after f number h v e c = next all i first l t s _ h v e ∙ rw c
 
 -- No tick is left.
 pub spent : {S : Type 0} (all i : ℕ) (first : Bool) (t : Tally) (s : Situation S) → all ≤ i → runs (all - i) first t s ≡ ends t Spent s

@@ -15,8 +15,8 @@ use Rattle.runner.specs.declared.running.Finished.{Finished}
 use Rattle.runner.specs.Tallies.{counted, halts}
 
 -- The levels of a tick: a jammed restart of cell 0 at the first.
-abbrev pub levels : Bool → Levels
-levels first = record { ready = true; int = first; jam = 5 }
+abbrev pub levelsAt : Bool → Levels
+levelsAt first = record { ready = true; int = first; jam = 5 }
 
 -- How a run ended, what it added up to, and the situation after it.
 pub record Ran (S : Type 0) : Type 0 where
@@ -30,8 +30,8 @@ ends t e s = record { finished = record { tally = t; ending = e }; after = s }
 unfoldable pub runs : {S : Type 0} → ℕ → Bool → Tally → Situation S → Ran S
 runs zero first t s = ends t Spent s
 runs (suc ticks) first t s =
-    elim (ticked (levels first) s .answer) [
-      Ok x ↦ cond (halts x) (ends (counted t x) Halted (ticked (levels first) s .after))
-        (runs ticks false (counted t x) (ticked (levels first) s .after))
-      | Err f ↦ ends t (Refused (causeNumber (f .cause))) (ticked (levels first) s .after)
+    elim (ticked (levelsAt first) s .answer) [
+      | Ok x ↦ cond (halts x) (ends (counted t x) Halted (ticked (levelsAt first) s .after))
+          (runs ticks false (counted t x) (ticked (levelsAt first) s .after))
+      | Err f ↦ ends t (Refused (causeNumber (f .cause))) (ticked (levelsAt first) s .after)
     ]

@@ -1,12 +1,12 @@
 -- What ticks add up to.
 use Prim.Native.Nat.{ℕ, _+_, _≤_}
-use mathlib.Core.Bool.{Bool, true, false, cond}
-use lib.Dec.{eqb}
+use mathlib.Core.Bool.{Bool, true, false}
 use Rattle.std.specs.declared.option.Option.{Option}
 use Rattle.std.specs.declared.option.Option.the-variants.{Some, None}
 use Rattle.machine.specs.declared.ticks.State.{State}
 use Rattle.machine.specs.declared.ticks.State.the-variants.{T1, T1I, T2, Wait, T3, T4, T5, Stopped}
 use Rattle.machine.specs.declared.ticks.Ticked.{Ticked}
+use Rattle.machine.specs.TickLaws.{wait, idle, statesOf}
 use Rattle.runner.specs.declared.tallies.Tally.{Tally}
 
 abbrev pub nothing : Tally
@@ -16,27 +16,13 @@ abbrev pub one : Option ℕ → ℕ
 one None = 0
 one (Some states) = 1
 
-abbrev pub worth : Option ℕ → ℕ
-worth None = 0
-worth (Some states) = states
-
-abbrev pub isWait : State → ℕ
-isWait T1 = 0
-isWait T1I = 0
-isWait T2 = 0
-isWait Wait = 1
-isWait T3 = 0
-isWait T4 = 0
-isWait T5 = 0
-isWait Stopped = 0
-
--- One more accepted tick. An idle state is one of cycle 0.
+-- One more accepted tick.
 abbrev pub counted : Tally → Ticked → Tally
 counted t x = record {
   instructions = t .instructions + one (x .ended);
-  «table_states» = t .«table_states» + worth (x .ended);
-  waits = t .waits + isWait (x .state);
-  idle = t .idle + cond (eqb (x .cycle) 0) 1 0;
+  «table_states» = t .«table_states» + statesOf (x .ended);
+  waits = t .waits + wait x;
+  idle = t .idle + idle x;
 }
 
 -- A halt ends in a STOPPED state that ends an instruction.

@@ -4,7 +4,7 @@ mod running;
 mod tallies;
 mod tape_runs;
 
-pub use running::run_to_halt;
 pub use running::Finished;
+pub use running::run_to_halt;
 pub use tallies::Tally;
 pub use tape_runs::run_tape;

@@ -1,7 +1,6 @@
 ghost use mathlib.Core.Path.{_≡_};
 ghost use Prim.Native.Nat.{_≤_};
 ghost use Rattle.runner.specs.Tallies.{counted, halts, Within};
-
 use machine::State;
 use machine::Ticked;
 

@@ -1,15 +1,15 @@
 ghost use mathlib.Core.Path.{_≡_};
 ghost use Rattle.cpu.specs.Processor.{viewOf};
+ghost use Rattle.tape.specs.Reading.{One-reading};
 ghost use Rattle.runner.specs.TapeRun.{TapeRun, MemoryRun, reportOf};
-
-use crate::running::run_to_halt;
 use crate::running::Finished;
+use crate::running::run_to_halt;
 use bus::FlatStore;
 use bus::FlatStoreCells;
 use bus::LatchCard;
 use bus::LatchCardPorts;
-use machine::power;
 use machine::Machine;
+use machine::power;
 use report::Outcome;
 use report::Report;
 use tape::read_tape;
@@ -17,7 +17,8 @@ use tape::read_tape;
 // Reads a tape into the memory, which is all RAM, powers up a machine over it and a latch card, all fitted and
 // zero, and runs it. A refused tape leaves the words before the fault in the memory, and no tick is made.
 pub fn run_tape(tape: &[u8], memory: &mut [u8]) -> Outcome
-    ensures { λ r. ⌜ TapeRun (now (tape .entry)) (now (memory .entry)) (now (memory .exit)) r ⌝ }
+    ensures run { λ r. ⌜ TapeRun (now (tape .entry)) (now (memory .entry)) (now (memory .exit)) r ⌝ }
+    ensures unambiguous { λ _. ⌜ One-reading ⌝ }
 {
     if let Err(refusal) = read_tape(tape, memory) {
         return Outcome::BadTape(refusal);
@@ -29,7 +30,10 @@ pub fn run_tape(tape: &[u8], memory: &mut [u8]) -> Outcome
 fn run_memory(memory: &mut [u8]) -> Outcome
     ensures { λ r. ⌜ MemoryRun (now (memory .entry)) (now (memory .exit)) r ⌝ }
 {
-    let mut store = FlatStore { bytes: memory, fixed: 0 };
+    let mut store = FlatStore {
+        bytes: memory,
+        fixed: 0,
+    };
     let mut card = LatchCard::new();
     let (mut machine, key) = power(&store, &card);
     let finished = run_to_halt(&mut machine, &key, &mut store, &mut card);

@@ -1,5 +1,5 @@
 -- How far a reading has come, and what a turn of the reader keeps.
-use mathlib.Core.Path.{_≡_, refl, sym, ap, subst, _∙_}
+use mathlib.Core.Path.{_≡_, sym, ap, _∙_}
 use mathlib.Core.Logic.{_⊎_, ⊎-elim}
 use mathlib.Core.List.{List, [], _∷_, _++_, append-assoc, append-nil}
 use Prim.Native.Nat.{ℕ, suc, _+_, _-_, _≤_, _<_}
@@ -36,9 +36,11 @@ module _ {tape before buffer : List ℕ} {at count : ℕ} (p : Progress tape bef
         goes-on = λ r. rw (← later-later) (p .goes-on (rw (s .stands .here) (skips (s .no-B) (s .no-dollar) r)));
       }
 
+  -- the buffer is as long as it was
   long : length buffer ≡ length before
   long = omega (arith, ap length (p .leaves), length-append (p .words) (drop count before), length-drop count before, p .counted, p .room)
 
+  -- a word takes one place of the room
   one-place : count < length buffer → suc (length before - (count + 1)) ≡ length before - count
   one-place fits = omega (arith, long)
 
@@ -54,14 +56,14 @@ module _ {tape before buffer : List ℕ} {at count : ℕ} (p : Progress tape bef
       }
 
   -- the reading ends here
-  finished : (end : Ending) (answer : Result (ℕ × ℕ) TapeRefusal) → Reads (length before - count) (drop at tape) [] end → answer ≡ answered (p .words) (later at end) → Reading tape before buffer answer
-  finished end answer r e =
+  finished : (end : Ending) (result : Result (ℕ × ℕ) TapeRefusal) → Reads (length before - count) (drop at tape) [] end → result ≡ answered (p .words) (later at end) → Reading tape before buffer result
+  finished end result r e =
       record {
         words = p .words;
         ending = later at end;
         reads = rw append-nil at (p .goes-on r);
-        answers = e;
-        leaves = rw (p .counted) (p .leaves);
+        answer = e;
+        buffer = rw (p .counted) (p .leaves);
       }
 
   stop : Reads (length before - count) (drop at tape) [] (stopped 0) → Reading tape before buffer (Ok (count, at))

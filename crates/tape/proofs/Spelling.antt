@@ -2,18 +2,19 @@
 use mathlib.Core.Path.{_≡_, refl, sym, ap, subst, _∙_}
 use mathlib.Core.Bool.{Bool, true, false}
 use mathlib.Core.List.{List, [], _∷_, _++_, map, append-assoc}
-use Prim.Native.Nat.{ℕ, suc, _+_, _*_, _^_, _≤_, _<_}
-use native.Mathlib.Nat.{add-zero, add-assoc, pow-suc}
+use Prim.Native.Nat.{ℕ, _+_, _*_, _^_, _≤_, _<_}
+use native.Mathlib.Nat.{add-assoc, pow-suc}
 use native.Mathlib.Omega.{arith}
 use lib.Dec.{lit<}
 use lib.ListN.{length, drop}
 use lib.Pow.{pow-add, pow-mono}
 use Rattle.std.proofs.shelf.Lists.{length-push, map-push}
-use Rattle.tape.specs.Tape.{letter, bit, value, Begins, Ending, bad, later, Reads, reads-word, bad-letter, bad-end}
+use Rattle.tape.specs.Tape.{letter, bit, value, Begins, reads-word, bad-letter, bad-end}
 use Rattle.tape.specs.Places.{Stands, Letter, No-letter}
 use Rattle.tape.specs.Words.{Word-from, Broken-from}
 use Rattle.tape.specs.declared.refusals.TapeRefusal.the-variants.{BadWord}
 
+-- one more bit at the low end
 value-push : (bits : List Bool) (b : Bool) → value (bits ++ b ∷ []) ≡ value bits * 2 + bit b
 value-push [] true = refl
 value-push [] false = refl

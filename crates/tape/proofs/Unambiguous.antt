@@ -2,7 +2,7 @@
 use mathlib.Core.Path.{_≡_, refl, sym, ap, _∙_}
 use mathlib.Core.Bool.{Bool, true, false, cond}
 use mathlib.Core.List.{List, [], _∷_, _++_, map, append-assoc, append-nil}
-use Prim.Native.Nat.{ℕ, zero, suc, pred, _+_, _-_, _<_}
+use Prim.Native.Nat.{ℕ, zero, suc, pred, _+_, _-_}
 use native.Mathlib.Nat.{add-zero, add-assoc}
 use native.Mathlib.Numerals.{one-add}
 use native.Mathlib.Omega.{arith}
@@ -40,6 +40,7 @@ pass (inside zero bits) at room (x ∷ xs) =
 pass (inside (suc due) bits) at room (x ∷ xs) =
     cond (eqb x 80) (pass (inside due (bits ++ true ∷ [])) (at + 1) room xs) (cond (eqb x 78) (pass (inside due (bits ++ false ∷ [])) (at + 1) room xs) ([], bad at))
 
+-- the letters of a word are passed over, and their bits kept
 letters : (bits before : List Bool) (due all at room : ℕ) (rest : List ℕ) → all ≡ length bits + due → pass (inside all before) at room (map letter bits ++ rest) ≡ pass (inside due (before ++ bits)) (at + length bits) room rest
 letters [] before due all at room rest e =
     let same : all ≡ due = omega arith in
@@ -60,6 +61,7 @@ no-end : (at room : ℕ) (bits : List Bool) (rest : List ℕ) → (Begins 70 res
 no-end at room bits [] f = refl
 no-end at room bits (x ∷ xs) f = rw (ne-eqb x 70 f)
 
+-- each reading is that of the pass
 once : {room : ℕ} {tape words : List ℕ} {end : Ending} (at : ℕ) → Reads room tape words end → pass outside at room tape ≡ (words, later at end)
 once at input-ends = rw add-zero
 once at dollar = rw add-zero

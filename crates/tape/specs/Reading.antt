@@ -21,12 +21,12 @@ with-count count (Ok place) = Ok (count, place)
 with-count count (Err refusal) = Err refusal
 
 -- A tape is read into a buffer: its words stand at the front, and every other byte is as it was.
-pub record Reading (tape before after : List ℕ) (answer : Result (ℕ × ℕ) TapeRefusal) : Type 0 where
+pub record Reading (tape before after : List ℕ) (result : Result (ℕ × ℕ) TapeRefusal) : Type 0 where
   pub words : List ℕ
   pub ending : Ending
   pub reads : Reads (length before) tape words ending
-  pub answers : answer ≡ answered words ending
-  pub leaves : after ≡ words ++ drop (length words) before
+  pub answer : result ≡ answered words ending
+  pub buffer : after ≡ words ++ drop (length words) before
 
 -- the grammar is unambiguous: a tape and a room have one list of words and one ending
 abbrev pub One-reading : Type 0

@@ -25,7 +25,7 @@ abbrev pub value : List Bool → ℕ
 value [] = 0
 value (b ∷ bits) = bit b * 2 ^ length bits + value bits
 
--- the first of the bytes is x
+-- there is a first byte, and it is x
 abbrev pub Begins : ℕ → List ℕ → Type 0
 Begins x [] = ⊥
 Begins x (y ∷ ys) = y ≡ x
@@ -53,9 +53,9 @@ pub data Reads : (room : ℕ) (tape words : List ℕ) → Ending → Type 0 wher
   skips : {room x : ℕ} {xs words : List ℕ} {end : Ending} → x ≢ 66 → x ≢ 36 → Reads room xs words end → Reads room (x ∷ xs) words (later 1 end)
   -- a word has eight letters and takes one place of the room
   reads-word : {room : ℕ} {xs words : List ℕ} {end : Ending} (bits : List Bool) → length bits ≡ 8 → Reads room xs words end → Reads (suc room) (word bits ++ xs) (value bits ∷ words) (later 10 end)
-  -- fewer than eight letters, and then neither N nor P
+  -- a word breaks off: after fewer than eight letters comes neither N nor P, or the input ends
   bad-letter : {room : ℕ} (bits : List Bool) (rest : List ℕ) → length bits < 8 → (Begins 78 rest → ⊥) → (Begins 80 rest → ⊥) → Reads (suc room) (66 ∷ (map letter bits ++ rest)) [] (bad (1 + length bits))
-  -- eight letters, and then no F
+  -- a word breaks off: after eight letters comes no F
   bad-end : {room : ℕ} (bits : List Bool) (rest : List ℕ) → length bits ≡ 8 → (Begins 70 rest → ⊥) → Reads (suc room) (66 ∷ (map letter bits ++ rest)) [] (bad 9)
   -- a B with no room left, whatever follows
   no-room : {xs : List ℕ} → Reads 0 (66 ∷ xs) [] (full 0)

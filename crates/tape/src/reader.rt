@@ -10,6 +10,12 @@ ghost use Rattle.tape.specs.Reading.{Reading, One-reading, with-count};
 ghost use Rattle.tape.specs.Words.{Word-from, Broken-from, Placed, Unplaced};
 use crate::refusals::TapeRefusal;
 
+// How many letters a word has between its B and its F.
+const LETTERS: usize = 8;
+
+// How many bytes a word takes.
+const WORD_LENGTH: usize = LETTERS + 2;
+
 // The character at a place of the tape, if the tape reaches so far.
 fn symbol_at(tape: &[u8], place: usize) -> Option<char>
     ensures { λ r. ⌜ BySome r (drop place (now (tape .entry)) ≡ []) (λ c. Stands (now (tape .entry)) place c) ⌝ }
@@ -30,6 +36,7 @@ enum Mark {
     Blank,
 }
 
+// The mark at a place of the tape.
 fn mark_at(tape: &[u8], place: usize) -> Mark
     ensures { λ r. ⌜ Marked (now (tape .entry)) place r ⌝ }
 {
@@ -53,18 +60,18 @@ fn with_letter(value: u8, tape: &[u8], place: usize) -> Result<u8, TapeRefusal>
     Ok(value * 2 + bit)
 }
 
-// The word whose B stands before the place `from`.
+// The word whose letters begin at `from`, after its B. The first letter is bit 7.
 fn read_word(tape: &[u8], from: usize) -> Result<u8, TapeRefusal>
     requires { ⌜ from ≤ length (now tape) ⌝ }
     ensures { λ r. ⌜ Cases r (Word-from (now (tape .entry)) from) (Broken-from (now (tape .entry)) from) ⌝ }
 {
     let mut value = 0;
-    for k in 0..8 {
+    for k in 0..LETTERS {
         value = with_letter(value, tape, from + k)?;
     }
-    match symbol_at(tape, from + 8) {
+    match symbol_at(tape, from + LETTERS) {
         Some('F') => Ok(value),
-        _ => Err(TapeRefusal::BadWord(from + 8)),
+        _ => Err(TapeRefusal::BadWord(from + LETTERS)),
     }
 }
 
@@ -92,7 +99,7 @@ fn place_words(tape: &[u8], buffer: &mut [u8], count: &mut usize) -> Result<usiz
             Mark::Begin => {
                 place_word(tape, at, buffer, *count)?;
                 *count += 1;
-                at += 10;
+                at += WORD_LENGTH;
             }
             Mark::End => return Ok(at),
             Mark::Blank => at += 1,

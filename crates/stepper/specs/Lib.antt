@@ -1,0 +1,3 @@
+pub mod Instructions
+pub mod Steps
+pub mod StepLaws
