@@ -8,11 +8,11 @@ use cpu::Processor;
 use isa::Cycle;
 
 impl Machine {
-    // The processor, to look at.
-    pub fn processor(&self) -> &Processor
-        ensures { λ r. ⌜ now r ≡ now (self .entry) .processor ⌝ }
+    // What the processor holds. It is a copy: nothing done to it reaches the machine.
+    pub fn processor(&self) -> Processor
+        ensures { λ r. ⌜ r ≡ now (self .entry) .processor ⌝ }
     {
-        &self.processor
+        self.processor
     }
 
     // The states that the instruction in hand has spent, waits left out. At an instruction's start it is 0.

@@ -1,3 +1,4 @@
 pub mod Tallies
 pub mod Running
+pub mod Stepping
 pub mod TapeRun

@@ -18,7 +18,7 @@ use report::Ending;
 const TICKS: u32 = 60_000;
 
 // The instruction that the first tick's interrupt jams: a restart of cell 0.
-const RESTART: u8 = 0x05;
+pub(crate) const RESTART: u8 = 0x05;
 
 // How a run ended, and what its ticks added up to.
 #[derive(Clone, Copy)]

@@ -91,3 +91,22 @@ performs pc (Restart a) p = doing p (calling p (8 * a)) 5
 performs pc (Input m) p = inputs pc p (p .rules .input (p .state) m (p .processor .registers .a))
 performs pc (Output m) p = outputs pc p (p .rules .output (p .state) m (p .processor .registers .a))
 performs pc Halt p = doing p (withStopped (p .processor) true) 4
+
+-- Whether an instruction goes to a port.
+abbrev pub goesToPort : Instruction → Bool
+goesToPort (Load d s) = false
+goesToPort (LoadMemory d) = false
+goesToPort (StoreMemory s) = false
+goesToPort (LoadImmediate d) = false
+goesToPort StoreImmediate = false
+goesToPort (Increment d) = false
+goesToPort (Decrement d) = false
+goesToPort (Arithmetic g o) = false
+goesToPort (Rotate r) = false
+goesToPort (Jump c) = false
+goesToPort (Call c) = false
+goesToPort (Return c) = false
+goesToPort (Restart a) = false
+goesToPort (Input m) = true
+goesToPort (Output m) = true
+goesToPort Halt = false
