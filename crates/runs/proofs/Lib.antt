@@ -1,0 +1,4 @@
+mod Pairs
+mod Courses
+mod Laws
+mod Answered
