@@ -41,12 +41,12 @@ pub comes-to : {S : Type 0} (j : Judgement) (good : Unit {0}) (bytes : List ℕ)
     j ≡ Ok good → sound (s .hand) ≡ true → ranOver (levelsOf bytes) s ≡ record { tally = t; fault = faultOf stopped; after = after } →
     fault ≡ faultOf stopped → m ≡ statesInHand (s .hand) → n ≡ statesInHand (after .hand) → r ≡ tells t fault m n →
     Comes-to j bytes s after r
-comes-to j good bytes s after t stopped fault m n r is ok course f before-it after-it told =
-    let P : Course _ → Type 0 = λ o. o .tally .accepted + statesInHand (s .hand) ≡
+comes-to {S} j good bytes s after t stopped fault m n r is ok course f before-it after-it told =
+    let P : Course S → Type 0 = λ o. o .tally .accepted + statesInHand (s .hand) ≡
     o .tally .«table_states» + o .tally .waits + o .tally .idle + statesInHand (o .after .hand) in
     let b : t .accepted + statesInHand (s .hand) ≡ t .«table_states» + t .waits + t .idle + statesInHand (after .hand) =
     subst P course (balanced (levelsOf bytes) s ok) in
-    let E : Course _ → Type 0 = λ o. endsAt (o .fault) (o .tally .accepted) (length (levelsOf bytes)) in
+    let E : Course S → Type 0 = λ o. endsAt (o .fault) (o .tally .accepted) (length (levelsOf bytes)) in
     record {
       outcome = ap (λ k. ranJudged k bytes s) is ∙ ap (answered s) course ∙ rw (told, f, before-it, after-it);
       sum = rw told (omega arith);

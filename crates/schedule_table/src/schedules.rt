@@ -14,7 +14,7 @@ pub enum Schedule {
 
 impl Schedule {
     // The bytes of the schedule.
-    pub fn bytes(&self, heap: Global) -> Result<Vec<u8>, AllocError> {
+    pub(crate) fn bytes(&self, heap: Global) -> Result<Vec<u8>, AllocError> {
         match self {
             Schedule::Ticks(letters, jam) => ticks(heap, letters, *jam),
             Schedule::Bytes(bytes) => bytes.to_vec(heap),
