@@ -13,10 +13,10 @@ loop-buffer-preserved-in-Begin c = search (rules, placed)
 pub returns-in-End : goal.returns-in-End
 returns-in-End c = record { reading = search (rules, at_end); unambiguous = one_reading }
 
-pub returns-in-err-place-word : goal.returns-in-err-place-word
-returns-in-err-place-word c =
-    let p = err_from_is_err_and c.from-residual.result c.from-residual.ensures.1 in
+pub returns-in_err-place_word-in-Begin : goal.returns-in_err-place_word-in-Begin
+returns-in_err-place_word-in-Begin c =
+    let p = err_from_is_err_and c.from_residual.result c.from_residual.ensures.1 in
     record {
-      reading = rw (p.1, p.2) (refused c.loop-buffer.invariant _ _ (search rules) c.in-err-place-word.ensures);
+      reading = rw (p.1, p.2) (refused c.loop-buffer.invariant _ _ (search rules) c.in_err-place_word-in-Begin.ensures);
       unambiguous = one_reading;
     }
