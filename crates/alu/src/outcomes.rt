@@ -11,19 +11,19 @@ pub struct Outcome {
 }
 
 // The flags that tell of a result, with the carry as given.
-pub(crate) fn flags_of(carry: bool, res: u8) -> Flags
-    ensures { result ≡ flags_of carry res }
+pub(crate) fn flags_of(carry: bool, byte: u8) -> Flags
+    ensures { result ≡ flags_of carry byte }
 {
     Flags {
         carry,
-        zero: res == 0,
-        sign: res >= 128,
-        parity: has_even_parity(res),
+        zero: byte == 0,
+        sign: byte >= 128,
+        parity: has_even_parity(byte),
     }
 }
 
-fn has_even_parity(res: u8) -> bool
-    ensures { result ≡ even_ones res }
+fn has_even_parity(byte: u8) -> bool
+    ensures { result ≡ even_ones byte }
 {
-    res.count_ones() % 2 == 0
+    byte.count_ones() % 2 == 0
 }
