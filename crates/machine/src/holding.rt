@@ -21,7 +21,7 @@ impl Machine {
         card: &C,
     ) -> Result<HoldKey, HoldRefusal>
         ensures answer { is_ok result ≡ at_start self.now.hand }
-        ensures used { Use (situation_of self.now (cells store.now) (rules card.now) (state card.now)) run (Held (is_ok result)) (situation_of self.now (cells store.now) (rules card.now) (state card.now)) (key_after (is_ok result)) }
+        ensures used { Use (situation_of self.now (S.cells store.now) (C.rules card.now) (C.state card.now)) run (Held (is_ok result)) (situation_of self.now (S.cells store.now) (C.rules card.now) (C.state card.now)) (key_after (is_ok result)) }
     {
         if self.may_hold(store, card) {
             let RunKey { only } = key;
@@ -39,10 +39,10 @@ impl Machine {
         card: &C,
         address: u16,
     ) -> u8
-        ensures value { result ≡ byte_at (cells store.old) address }
-        ensures cells_kept { cells store.new ≡ cells store.old }
-        ensures frame_kept { S.Store.frame store.new ≡ S.Store.frame store.old }
-        ensures used { Use (situation_of self.now (cells store.old) (rules card.now) (state card.now)) held (Examined address result) (situation_of self.now (cells store.new) (rules card.now) (state card.now)) held }
+        ensures value { result ≡ byte_at (S.cells store.old) address }
+        ensures cells_kept { S.cells store.new ≡ S.cells store.old }
+        ensures frame_kept { S.frame store.new ≡ S.frame store.old }
+        ensures used { Use (situation_of self.now (S.cells store.old) (C.rules card.now) (C.state card.now)) held (Examined address result) (situation_of self.now (S.cells store.new) (C.rules card.now) (C.state card.now)) held }
     {
         self.read_held(store, card, address)
     }
@@ -57,17 +57,17 @@ impl Machine {
         address: u16,
         byte: u8,
     ) -> Written
-        ensures answer { result ≡ answer_at (cells store.old) address }
-        ensures after { cells store.new ≡ written (cells store.old) address byte }
-        ensures frame_kept { S.Store.frame store.new ≡ S.Store.frame store.old }
-        ensures used { Use (situation_of self.now (cells store.old) (rules card.now) (state card.now)) held (Deposited address byte result) (situation_of self.now (cells store.new) (rules card.now) (state card.now)) held }
+        ensures answer { result ≡ answer_at (S.cells store.old) address }
+        ensures after { S.cells store.new ≡ written (S.cells store.old) address byte }
+        ensures frame_kept { S.frame store.new ≡ S.frame store.old }
+        ensures used { Use (situation_of self.now (S.cells store.old) (C.rules card.now) (C.state card.now)) held (Deposited address byte result) (situation_of self.now (S.cells store.new) (C.rules card.now) (C.state card.now)) held }
     {
         self.write_held(store, card, address, byte)
     }
 
     // Turns the hold key back into a run key. Machine, store and card stay as they are.
     pub fn release<S: Store, C: PortCard>(&self, key: HoldKey, store: &S, card: &C) -> RunKey
-        ensures used { Use (situation_of self.now (cells store.now) (rules card.now) (state card.now)) held Released (situation_of self.now (cells store.now) (rules card.now) (state card.now)) run }
+        ensures used { Use (situation_of self.now (S.cells store.now) (C.rules card.now) (C.state card.now)) held Released (situation_of self.now (S.cells store.now) (C.rules card.now) (C.state card.now)) run }
     {
         let HoldKey { only } = key;
         RunKey { only }
@@ -76,7 +76,7 @@ impl Machine {
     // Whether the machine is at an instruction's start, as a call of a history.
     fn may_hold<S: Store, C: PortCard>(&self, store: &S, card: &C) -> bool
         ensures answer { result ≡ at_start self.now.hand }
-        ensures used { Use (situation_of self.now (cells store.now) (rules card.now) (state card.now)) run (Held result) (situation_of self.now (cells store.now) (rules card.now) (state card.now)) (key_after result) }
+        ensures used { Use (situation_of self.now (S.cells store.now) (C.rules card.now) (C.state card.now)) run (Held result) (situation_of self.now (S.cells store.now) (C.rules card.now) (C.state card.now)) (key_after result) }
     {
         match self.hand {
             InHand::Start => true,
@@ -86,10 +86,10 @@ impl Machine {
 
     // Reads a cell, as a call of a history.
     fn read_held<S: Store, C: PortCard>(&self, store: &mut S, card: &C, address: u16) -> u8
-        ensures value { result ≡ byte_at (cells store.old) address }
-        ensures cells_kept { cells store.new ≡ cells store.old }
-        ensures frame_kept { S.Store.frame store.new ≡ S.Store.frame store.old }
-        ensures used { Use (situation_of self.now (cells store.old) (rules card.now) (state card.now)) held (Examined address result) (situation_of self.now (cells store.new) (rules card.now) (state card.now)) held }
+        ensures value { result ≡ byte_at (S.cells store.old) address }
+        ensures cells_kept { S.cells store.new ≡ S.cells store.old }
+        ensures frame_kept { S.frame store.new ≡ S.frame store.old }
+        ensures used { Use (situation_of self.now (S.cells store.old) (C.rules card.now) (C.state card.now)) held (Examined address result) (situation_of self.now (S.cells store.new) (C.rules card.now) (C.state card.now)) held }
     {
         store.read(address)
     }
@@ -102,10 +102,10 @@ impl Machine {
         address: u16,
         byte: u8,
     ) -> Written
-        ensures answer { result ≡ answer_at (cells store.old) address }
-        ensures after { cells store.new ≡ written (cells store.old) address byte }
-        ensures frame_kept { S.Store.frame store.new ≡ S.Store.frame store.old }
-        ensures used { Use (situation_of self.now (cells store.old) (rules card.now) (state card.now)) held (Deposited address byte result) (situation_of self.now (cells store.new) (rules card.now) (state card.now)) held }
+        ensures answer { result ≡ answer_at (S.cells store.old) address }
+        ensures after { S.cells store.new ≡ written (S.cells store.old) address byte }
+        ensures frame_kept { S.frame store.new ≡ S.frame store.old }
+        ensures used { Use (situation_of self.now (S.cells store.old) (C.rules card.now) (C.state card.now)) held (Deposited address byte result) (situation_of self.now (S.cells store.new) (C.rules card.now) (C.state card.now)) held }
     {
         store.write(address, byte)
     }

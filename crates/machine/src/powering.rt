@@ -19,14 +19,14 @@ use states::InHand;
 // In every history of calls from here on the two engines agree, the ticks add up, and two machines that are fed
 // the same come to the same.
 pub fn power<S: Store, C: PortCard>(store: &S, card: &C) -> (Machine, RunKey)
-    ensures machine { situation_of result.0 (cells store.now) (rules card.now) (state card.now) ≡ powered_up (cells store.now) (rules card.now) (state card.now) }
-    ensures history { History (powered_place (cells store.now) (rules card.now) (state card.now)) [] (situation_of result.0 (cells store.now) (rules card.now) (state card.now)) run }
-    ensures engines_agree { EnginesAgree (powered_place (cells store.now) (rules card.now) (state card.now)) }
-    ensures ticks_add_up { TicksAddUp (powered_place (cells store.now) (rules card.now) (state card.now)) }
-    ensures machines_agree { MachinesAgree (powered_place (cells store.now) (rules card.now) (state card.now)) }
-    ensures lawful { LawfulTicks C.PortCard.State }
+    ensures machine { situation_of result.0 (S.cells store.now) (C.rules card.now) (C.state card.now) ≡ powered_up (S.cells store.now) (C.rules card.now) (C.state card.now) }
+    ensures history { History (powered_place (S.cells store.now) (C.rules card.now) (C.state card.now)) [] (situation_of result.0 (S.cells store.now) (C.rules card.now) (C.state card.now)) run }
+    ensures engines_agree { EnginesAgree (powered_place (S.cells store.now) (C.rules card.now) (C.state card.now)) }
+    ensures ticks_add_up { TicksAddUp (powered_place (S.cells store.now) (C.rules card.now) (C.state card.now)) }
+    ensures machines_agree { MachinesAgree (powered_place (S.cells store.now) (C.rules card.now) (C.state card.now)) }
+    ensures lawful { LawfulTicks C.State }
     ensures zero_at_a_start { ZeroAtAStart }
-    ensures lasting { LastsItsTableStates C.PortCard.State }
+    ensures lasting { LastsItsTableStates C.State }
 {
     keep_the_laws(store, card);
     (
@@ -40,11 +40,11 @@ pub fn power<S: Store, C: PortCard>(store: &S, card: &C) -> (Machine, RunKey)
 
 // The proof of the laws. It does nothing.
 fn keep_the_laws<S: Store, C: PortCard>(store: &S, card: &C)
-    ensures history { History (powered_place (cells store.now) (rules card.now) (state card.now)) [] (powered_up (cells store.now) (rules card.now) (state card.now)) run }
-    ensures engines_agree { EnginesAgree (powered_place (cells store.now) (rules card.now) (state card.now)) }
-    ensures ticks_add_up { TicksAddUp (powered_place (cells store.now) (rules card.now) (state card.now)) }
-    ensures machines_agree { MachinesAgree (powered_place (cells store.now) (rules card.now) (state card.now)) }
-    ensures lawful { LawfulTicks C.PortCard.State }
+    ensures history { History (powered_place (S.cells store.now) (C.rules card.now) (C.state card.now)) [] (powered_up (S.cells store.now) (C.rules card.now) (C.state card.now)) run }
+    ensures engines_agree { EnginesAgree (powered_place (S.cells store.now) (C.rules card.now) (C.state card.now)) }
+    ensures ticks_add_up { TicksAddUp (powered_place (S.cells store.now) (C.rules card.now) (C.state card.now)) }
+    ensures machines_agree { MachinesAgree (powered_place (S.cells store.now) (C.rules card.now) (C.state card.now)) }
+    ensures lawful { LawfulTicks C.State }
     ensures zero_at_a_start { ZeroAtAStart }
-    ensures lasting { LastsItsTableStates C.PortCard.State }
+    ensures lasting { LastsItsTableStates C.State }
 {}

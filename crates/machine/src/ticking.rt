@@ -28,10 +28,10 @@ impl Machine {
         store: &mut S,
         card: &mut C,
     ) -> Result<Ticked, Fault>
-        ensures outcome { ticked levels (situation_of self.old (cells store.old) (rules card.old) (state card.old)) ≡ record { answer = result; after = situation_of self.new (cells store.new) (rules card.new) (state card.new) } }
-        ensures used { Use (situation_of self.old (cells store.old) (rules card.old) (state card.old)) run (Ticks levels result) (situation_of self.new (cells store.new) (rules card.new) (state card.new)) run }
-        ensures store_frame { S.Store.frame store.new ≡ S.Store.frame store.old }
-        ensures card_frame { C.PortCard.frame card.new ≡ C.PortCard.frame card.old }
+        ensures outcome { ticked levels (situation_of self.old (S.cells store.old) (C.rules card.old) (C.state card.old)) ≡ record { answer = result; after = situation_of self.new (S.cells store.new) (C.rules card.new) (C.state card.new) } }
+        ensures used { Use (situation_of self.old (S.cells store.old) (C.rules card.old) (C.state card.old)) run (Ticks levels result) (situation_of self.new (S.cells store.new) (C.rules card.new) (C.state card.new)) run }
+        ensures store_frame { S.frame store.new ≡ S.frame store.old }
+        ensures card_frame { C.frame card.new ≡ C.frame card.old }
     {
         count_as_call(card);
         match (self.hand, levels.ready, levels.int) {
@@ -54,9 +54,9 @@ impl Machine {
         card: &mut C,
     ) -> Result<Ticked, Fault>
         requires { self.old.hand ≡ InHand.Underway work }
-        ensures outcome { goes work.next ready work (place_of self.old.processor (cells store.old) (rules card.old) (state card.old)) ≡ record { answer = result; after = situation_of self.new (cells store.new) (rules card.new) (state card.new) } }
-        ensures store_frame { S.Store.frame store.new ≡ S.Store.frame store.old }
-        ensures card_frame { C.PortCard.frame card.new ≡ C.PortCard.frame card.old }
+        ensures outcome { goes work.next ready work (place_of self.old.processor (S.cells store.old) (C.rules card.old) (C.state card.old)) ≡ record { answer = result; after = situation_of self.new (S.cells store.new) (C.rules card.new) (C.state card.new) } }
+        ensures store_frame { S.frame store.new ≡ S.frame store.old }
+        ensures card_frame { C.frame card.new ≡ C.frame card.old }
     {
         match (work.next, ready) {
             (Phase::T1, _) => Ok(self.proceed(State::T1, work)),
@@ -154,8 +154,8 @@ impl Machine {
         card: &C,
     ) -> Result<Ticked, Fault>
         requires { self.old.hand ≡ InHand.Opened opening }
-        ensures outcome { opened true jam opening (place_of self.old.processor (cells store.old) (rules card.now) (state card.now)) ≡ record { answer = result; after = situation_of self.new (cells store.new) (rules card.now) (state card.now) } }
-        ensures frame { S.Store.frame store.new ≡ S.Store.frame store.old }
+        ensures outcome { opened true jam opening (place_of self.old.processor (S.cells store.old) (C.rules card.now) (C.state card.now)) ≡ record { answer = result; after = situation_of self.new (S.cells store.new) (C.rules card.now) (C.state card.now) } }
+        ensures frame { S.frame store.new ≡ S.frame store.old }
     {
         let byte = if opening.jammed {
             jam
@@ -187,9 +187,9 @@ impl Machine {
         card: &mut C,
     ) -> Result<Ticked, Fault>
         requires { (self.old.hand ≡ InHand.Underway work) × (work.next ≡ Phase.T3) }
-        ensures outcome { transfers true work (place_of self.old.processor (cells store.old) (rules card.old) (state card.old)) ≡ record { answer = result; after = situation_of self.new (cells store.new) (rules card.new) (state card.new) } }
-        ensures store_frame { S.Store.frame store.new ≡ S.Store.frame store.old }
-        ensures card_frame { C.PortCard.frame card.new ≡ C.PortCard.frame card.old }
+        ensures outcome { transfers true work (place_of self.old.processor (S.cells store.old) (C.rules card.old) (C.state card.old)) ≡ record { answer = result; after = situation_of self.new (S.cells store.new) (C.rules card.new) (C.state card.new) } }
+        ensures store_frame { S.frame store.new ≡ S.frame store.old }
+        ensures card_frame { C.frame card.new ≡ C.frame card.old }
     {
         let transfer = work.instruction.transfer(work.cycle);
         let answer = carry_out(
@@ -207,7 +207,7 @@ impl Machine {
 
 // The proof that a tick is a call of a history. It does nothing.
 fn count_as_call<C: PortCard>(_card: &C)
-    ensures { TicksAreCalls C.PortCard.State }
+    ensures { TicksAreCalls C.State }
 {}
 
 // The answer of a state of it.

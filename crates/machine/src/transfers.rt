@@ -17,9 +17,9 @@ pub(crate) fn carry_out<S: Store, C: PortCard>(
     store: &mut S,
     card: &mut C,
 ) -> Result<u8, Trouble>
-    ensures transfer { CarriedOut (moves transfer address low (place_of processor.now (cells store.old) (rules card.old) (state card.old))) result (place_of processor.now (cells store.old) (rules card.old) (state card.old)) (place_of processor.now (cells store.new) (rules card.new) (state card.new)) }
-    ensures store_frame { S.Store.frame store.new ≡ S.Store.frame store.old }
-    ensures card_frame { C.PortCard.frame card.new ≡ C.PortCard.frame card.old }
+    ensures transfer { CarriedOut (moves transfer address low (place_of processor.now (S.cells store.old) (C.rules card.old) (C.state card.old))) result (place_of processor.now (S.cells store.old) (C.rules card.old) (C.state card.old)) (place_of processor.now (S.cells store.new) (C.rules card.new) (C.state card.new)) }
+    ensures store_frame { S.frame store.new ≡ S.frame store.old }
+    ensures card_frame { C.frame card.new ≡ C.frame card.old }
 {
     match transfer {
         None => Ok(0),

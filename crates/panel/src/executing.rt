@@ -21,10 +21,10 @@ impl<S: Store> Panel<S> {
     // A panel over a machine with its store and its card, and beside it a processor at power-up over another store
     // and a like card.
     pub fn new(machine: Machine, store: S, card: LatchCard, step_store: S) -> Panel<S>
-        ensures worked { machine_at result.machine (cells result.store) result.card ≡ machine_at machine (cells store) card }
-        ensures beside { processor_at result.processor (cells result.step_store) result.step_card ≡ powered_at (cells step_store) card }
-        ensures store_frame { S.Store.frame result.store ≡ S.Store.frame store }
-        ensures step_store_frame { S.Store.frame result.step_store ≡ S.Store.frame step_store }
+        ensures worked { machine_at result.machine (S.cells result.store) result.card ≡ machine_at machine (S.cells store) card }
+        ensures beside { processor_at result.processor (S.cells result.step_store) result.step_card ≡ powered_at (S.cells step_store) card }
+        ensures store_frame { S.frame result.store ≡ S.frame store }
+        ensures step_store_frame { S.frame result.step_store ≡ S.frame step_store }
     {
         Panel {
             machine,
@@ -39,9 +39,9 @@ impl<S: Store> Panel<S> {
     // Carries a command out, with this schedule for a run, and answers the key that is then in hand. A command
     // that the key in hand does not allow leaves everything as it was.
     pub fn execute(&mut self, key: Key, command: Command, schedule: &[u8]) -> (Key, Answer)
-        ensures outcome { carried_out command schedule.now (desk_of cells key self.old) ≡ record { answer = result.1; after = desk_of cells result.0 self.new } }
-        ensures store_frame { S.Store.frame self.new.store ≡ S.Store.frame self.old.store }
-        ensures step_store_frame { S.Store.frame self.new.step_store ≡ S.Store.frame self.old.step_store }
+        ensures outcome { carried_out command schedule.now (desk_of S.cells key self.old) ≡ record { answer = result.1; after = desk_of S.cells result.0 self.new } }
+        ensures store_frame { S.frame self.new.store ≡ S.frame self.old.store }
+        ensures step_store_frame { S.frame self.new.step_store ≡ S.frame self.old.step_store }
     {
         match command {
             Command::Tick(levels) => self.tick(key, levels),
@@ -59,9 +59,9 @@ impl<S: Store> Panel<S> {
 
     // One tick of the machine.
     fn tick(&mut self, key: Key, levels: Levels) -> (Key, Answer)
-        ensures outcome { ticks levels (desk_of cells key self.old) ≡ record { answer = result.1; after = desk_of cells result.0 self.new } }
-        ensures store_frame { S.Store.frame self.new.store ≡ S.Store.frame self.old.store }
-        ensures step_store_frame { S.Store.frame self.new.step_store ≡ S.Store.frame self.old.step_store }
+        ensures outcome { ticks levels (desk_of S.cells key self.old) ≡ record { answer = result.1; after = desk_of S.cells result.0 self.new } }
+        ensures store_frame { S.frame self.new.store ≡ S.frame self.old.store }
+        ensures step_store_frame { S.frame self.new.step_store ≡ S.frame self.old.step_store }
     {
         match key {
             Key::Run(key) => {
@@ -76,9 +76,9 @@ impl<S: Store> Panel<S> {
 
     // A run of the machine.
     fn run(&mut self, key: Key, schedule: &[u8]) -> (Key, Answer)
-        ensures outcome { runs schedule.now (desk_of cells key self.old) ≡ record { answer = result.1; after = desk_of cells result.0 self.new } }
-        ensures store_frame { S.Store.frame self.new.store ≡ S.Store.frame self.old.store }
-        ensures step_store_frame { S.Store.frame self.new.step_store ≡ S.Store.frame self.old.step_store }
+        ensures outcome { runs schedule.now (desk_of S.cells key self.old) ≡ record { answer = result.1; after = desk_of S.cells result.0 self.new } }
+        ensures store_frame { S.frame self.new.store ≡ S.frame self.old.store }
+        ensures step_store_frame { S.frame self.new.step_store ≡ S.frame self.old.step_store }
     {
         match key {
             Key::Run(key) => {
@@ -97,9 +97,9 @@ impl<S: Store> Panel<S> {
 
     // One step of the processor beside the machine.
     fn step(&mut self, key: Key, feed: Feed) -> (Key, Answer)
-        ensures outcome { steps feed (desk_of cells key self.old) ≡ record { answer = result.1; after = desk_of cells result.0 self.new } }
-        ensures store_frame { S.Store.frame self.new.store ≡ S.Store.frame self.old.store }
-        ensures step_store_frame { S.Store.frame self.new.step_store ≡ S.Store.frame self.old.step_store }
+        ensures outcome { steps feed (desk_of S.cells key self.old) ≡ record { answer = result.1; after = desk_of S.cells result.0 self.new } }
+        ensures store_frame { S.frame self.new.store ≡ S.frame self.old.store }
+        ensures step_store_frame { S.frame self.new.step_store ≡ S.frame self.old.step_store }
     {
         let answer = step(
             &mut self.processor,
@@ -112,9 +112,9 @@ impl<S: Store> Panel<S> {
 
     // Holds the machine.
     fn hold(&mut self, key: Key) -> (Key, Answer)
-        ensures outcome { holds (desk_of cells key self.old) ≡ record { answer = result.1; after = desk_of cells result.0 self.new } }
-        ensures store_frame { S.Store.frame self.new.store ≡ S.Store.frame self.old.store }
-        ensures step_store_frame { S.Store.frame self.new.step_store ≡ S.Store.frame self.old.step_store }
+        ensures outcome { holds (desk_of S.cells key self.old) ≡ record { answer = result.1; after = desk_of S.cells result.0 self.new } }
+        ensures store_frame { S.frame self.new.store ≡ S.frame self.old.store }
+        ensures step_store_frame { S.frame self.new.step_store ≡ S.frame self.old.step_store }
     {
         match key {
             Key::Run(key) => match self.machine.hold(key, &self.store, &self.card) {
@@ -131,9 +131,9 @@ impl<S: Store> Panel<S> {
 
     // Looks into the store of the held machine.
     fn examine(&mut self, key: Key, address: u16) -> (Key, Answer)
-        ensures outcome { examines address (desk_of cells key self.old) ≡ record { answer = result.1; after = desk_of cells result.0 self.new } }
-        ensures store_frame { S.Store.frame self.new.store ≡ S.Store.frame self.old.store }
-        ensures step_store_frame { S.Store.frame self.new.step_store ≡ S.Store.frame self.old.step_store }
+        ensures outcome { examines address (desk_of S.cells key self.old) ≡ record { answer = result.1; after = desk_of S.cells result.0 self.new } }
+        ensures store_frame { S.frame self.new.store ≡ S.frame self.old.store }
+        ensures step_store_frame { S.frame self.new.step_store ≡ S.frame self.old.step_store }
     {
         match key {
             Key::Held(key) => {
@@ -148,9 +148,9 @@ impl<S: Store> Panel<S> {
 
     // Writes to the store of the held machine.
     fn deposit(&mut self, key: Key, address: u16, byte: u8) -> (Key, Answer)
-        ensures outcome { deposits address byte (desk_of cells key self.old) ≡ record { answer = result.1; after = desk_of cells result.0 self.new } }
-        ensures store_frame { S.Store.frame self.new.store ≡ S.Store.frame self.old.store }
-        ensures step_store_frame { S.Store.frame self.new.step_store ≡ S.Store.frame self.old.step_store }
+        ensures outcome { deposits address byte (desk_of S.cells key self.old) ≡ record { answer = result.1; after = desk_of S.cells result.0 self.new } }
+        ensures store_frame { S.frame self.new.store ≡ S.frame self.old.store }
+        ensures step_store_frame { S.frame self.new.step_store ≡ S.frame self.old.step_store }
     {
         match key {
             Key::Held(key) => {
@@ -165,9 +165,9 @@ impl<S: Store> Panel<S> {
 
     // Releases the machine.
     fn release(&mut self, key: Key) -> (Key, Answer)
-        ensures outcome { releases (desk_of cells key self.old) ≡ record { answer = result.1; after = desk_of cells result.0 self.new } }
-        ensures store_frame { S.Store.frame self.new.store ≡ S.Store.frame self.old.store }
-        ensures step_store_frame { S.Store.frame self.new.step_store ≡ S.Store.frame self.old.step_store }
+        ensures outcome { releases (desk_of S.cells key self.old) ≡ record { answer = result.1; after = desk_of S.cells result.0 self.new } }
+        ensures store_frame { S.frame self.new.store ≡ S.frame self.old.store }
+        ensures step_store_frame { S.frame self.new.step_store ≡ S.frame self.old.step_store }
     {
         match key {
             Key::Held(key) => {
@@ -180,9 +180,9 @@ impl<S: Store> Panel<S> {
 
     // Sets the byte that an input port answers, of both cards.
     fn input(&mut self, key: Key, port: u8, byte: u8) -> (Key, Answer)
-        ensures outcome { inputs port byte (desk_of cells key self.old) ≡ record { answer = result.1; after = desk_of cells result.0 self.new } }
-        ensures store_frame { S.Store.frame self.new.store ≡ S.Store.frame self.old.store }
-        ensures step_store_frame { S.Store.frame self.new.step_store ≡ S.Store.frame self.old.step_store }
+        ensures outcome { inputs port byte (desk_of S.cells key self.old) ≡ record { answer = result.1; after = desk_of S.cells result.0 self.new } }
+        ensures store_frame { S.frame self.new.store ≡ S.frame self.old.store }
+        ensures step_store_frame { S.frame self.new.step_store ≡ S.frame self.old.step_store }
     {
         let answer = self.card.set_input(port, byte);
         let _ = self.step_card.set_input(port, byte);

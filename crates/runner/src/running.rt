@@ -29,9 +29,9 @@ pub fn run_to_halt<S: Store, C: PortCard>(
     store: &mut S,
     card: &mut C,
 ) -> Finished
-    ensures outcome { runs 60000 true nothing (situation_of machine.old (cells store.old) (rules card.old) (state card.old)) ≡ record { finished = result; after = situation_of machine.new (cells store.new) (rules card.new) (state card.new) } }
-    ensures store_frame { S.Store.frame store.new ≡ S.Store.frame store.old }
-    ensures card_frame { C.PortCard.frame card.new ≡ C.PortCard.frame card.old }
+    ensures outcome { runs 60000 true nothing (situation_of machine.old (S.cells store.old) (C.rules card.old) (C.state card.old)) ≡ record { finished = result; after = situation_of machine.new (S.cells store.new) (C.rules card.new) (C.state card.new) } }
+    ensures store_frame { S.frame store.new ≡ S.frame store.old }
+    ensures card_frame { C.frame card.new ≡ C.frame card.old }
 {
     run_ticks(machine, key, TICKS, store, card)
 }
@@ -45,9 +45,9 @@ fn run_ticks<S: Store, C: PortCard>(
     card: &mut C,
 ) -> Finished
     requires { ticks ≤ 60000 }
-    ensures outcome { runs ticks true nothing (situation_of machine.old (cells store.old) (rules card.old) (state card.old)) ≡ record { finished = result; after = situation_of machine.new (cells store.new) (rules card.new) (state card.new) } }
-    ensures store_frame { S.Store.frame store.new ≡ S.Store.frame store.old }
-    ensures card_frame { C.PortCard.frame card.new ≡ C.PortCard.frame card.old }
+    ensures outcome { runs ticks true nothing (situation_of machine.old (S.cells store.old) (C.rules card.old) (C.state card.old)) ≡ record { finished = result; after = situation_of machine.new (S.cells store.new) (C.rules card.new) (C.state card.new) } }
+    ensures store_frame { S.frame store.new ≡ S.frame store.old }
+    ensures card_frame { C.frame card.new ≡ C.frame card.old }
 {
     let mut tally = Tally {
         instructions: 0,

@@ -23,9 +23,9 @@ pub fn step_to_halt<S: Store, C: PortCard>(
     store: &mut S,
     card: &mut C,
 ) -> Finished
-    ensures outcome { steps 20000 true nothing (place_of processor.old (cells store.old) (rules card.old) (state card.old)) ≡ record { finished = result; after = place_of processor.new (cells store.new) (rules card.new) (state card.new) } }
-    ensures store_frame { S.Store.frame store.new ≡ S.Store.frame store.old }
-    ensures card_frame { C.PortCard.frame card.new ≡ C.PortCard.frame card.old }
+    ensures outcome { steps 20000 true nothing (place_of processor.old (S.cells store.old) (C.rules card.old) (C.state card.old)) ≡ record { finished = result; after = place_of processor.new (S.cells store.new) (C.rules card.new) (C.state card.new) } }
+    ensures store_frame { S.frame store.new ≡ S.frame store.old }
+    ensures card_frame { C.frame card.new ≡ C.frame card.old }
 {
     take_steps(processor, STEPS, store, card)
 }
@@ -38,9 +38,9 @@ fn take_steps<S: Store, C: PortCard>(
     card: &mut C,
 ) -> Finished
     requires { most ≤ 20000 }
-    ensures outcome { steps most true nothing (place_of processor.old (cells store.old) (rules card.old) (state card.old)) ≡ record { finished = result; after = place_of processor.new (cells store.new) (rules card.new) (state card.new) } }
-    ensures store_frame { S.Store.frame store.new ≡ S.Store.frame store.old }
-    ensures card_frame { C.PortCard.frame card.new ≡ C.PortCard.frame card.old }
+    ensures outcome { steps most true nothing (place_of processor.old (S.cells store.old) (C.rules card.old) (C.state card.old)) ≡ record { finished = result; after = place_of processor.new (S.cells store.new) (C.rules card.new) (C.state card.new) } }
+    ensures store_frame { S.frame store.new ≡ S.frame store.old }
+    ensures card_frame { C.frame card.new ≡ C.frame card.old }
 {
     let mut tally = Tally {
         instructions: 0,

@@ -23,13 +23,13 @@ pub fn run<S: Store, C: PortCard>(
     store: &mut S,
     card: &mut C,
 ) -> Result<Ran, ScheduleRefusal>
-    ensures outcome { ran schedule.now (situation_of machine.old (cells store.old) (rules card.old) (state card.old)) ≡ record { answer = result; after = situation_of machine.new (cells store.new) (rules card.new) (state card.new) } }
+    ensures outcome { ran schedule.now (situation_of machine.old (S.cells store.old) (C.rules card.old) (C.state card.old)) ≡ record { answer = result; after = situation_of machine.new (S.cells store.new) (C.rules card.new) (C.state card.new) } }
     ensures sum { AddsUp result }
     ensures end { EndsAt schedule.now result }
-    ensures one_by_one { OneByOne C.PortCard.State }
-    ensures used { Extends (levels_made (judged schedule.now) schedule.now) (situation_of machine.old (cells store.old) (rules card.old) (state card.old)) (situation_of machine.new (cells store.new) (rules card.new) (state card.new)) }
-    ensures store_frame { S.Store.frame store.new ≡ S.Store.frame store.old }
-    ensures card_frame { C.PortCard.frame card.new ≡ C.PortCard.frame card.old }
+    ensures one_by_one { OneByOne C.State }
+    ensures used { Extends (levels_made (judged schedule.now) schedule.now) (situation_of machine.old (S.cells store.old) (C.rules card.old) (C.state card.old)) (situation_of machine.new (S.cells store.new) (C.rules card.new) (C.state card.new)) }
+    ensures store_frame { S.frame store.new ≡ S.frame store.old }
+    ensures card_frame { C.frame card.new ≡ C.frame card.old }
 {
     run_judged(judge(schedule), machine, key, schedule, store, card)
 }
@@ -44,13 +44,13 @@ fn run_judged<S: Store, C: PortCard>(
     card: &mut C,
 ) -> Result<Ran, ScheduleRefusal>
     requires { judgement ≡ judged schedule.now }
-    ensures outcome { ran_judged judgement schedule.now (situation_of machine.old (cells store.old) (rules card.old) (state card.old)) ≡ record { answer = result; after = situation_of machine.new (cells store.new) (rules card.new) (state card.new) } }
+    ensures outcome { ran_judged judgement schedule.now (situation_of machine.old (S.cells store.old) (C.rules card.old) (C.state card.old)) ≡ record { answer = result; after = situation_of machine.new (S.cells store.new) (C.rules card.new) (C.state card.new) } }
     ensures sum { AddsUp result }
     ensures end { EndsAt schedule.now result }
-    ensures one_by_one { OneByOne C.PortCard.State }
-    ensures used { Extends (levels_made judgement schedule.now) (situation_of machine.old (cells store.old) (rules card.old) (state card.old)) (situation_of machine.new (cells store.new) (rules card.new) (state card.new)) }
-    ensures store_frame { S.Store.frame store.new ≡ S.Store.frame store.old }
-    ensures card_frame { C.PortCard.frame card.new ≡ C.PortCard.frame card.old }
+    ensures one_by_one { OneByOne C.State }
+    ensures used { Extends (levels_made judgement schedule.now) (situation_of machine.old (S.cells store.old) (C.rules card.old) (C.state card.old)) (situation_of machine.new (S.cells store.new) (C.rules card.new) (C.state card.new)) }
+    ensures store_frame { S.frame store.new ≡ S.frame store.old }
+    ensures card_frame { C.frame card.new ≡ C.frame card.old }
 {
     judgement?;
     let in_hand_before = machine.states_in_hand();
@@ -74,9 +74,9 @@ fn run_ticks<S: Store, C: PortCard>(
     tally: &mut Tally,
 ) -> Result<(), RunFault>
     requires { (length schedule.now ≤ 131072) × (tally.old ≡ nothing) }
-    ensures course { ran_over (levels_of schedule.now) (situation_of machine.old (cells store.old) (rules card.old) (state card.old)) ≡ record { tally = tally.exit.now; fault = fault_of result; after = situation_of machine.new (cells store.new) (rules card.new) (state card.new) } }
-    ensures store_frame { S.Store.frame store.new ≡ S.Store.frame store.old }
-    ensures card_frame { C.PortCard.frame card.new ≡ C.PortCard.frame card.old }
+    ensures course { ran_over (levels_of schedule.now) (situation_of machine.old (S.cells store.old) (C.rules card.old) (C.state card.old)) ≡ record { tally = tally.exit.now; fault = fault_of result; after = situation_of machine.new (S.cells store.new) (C.rules card.new) (C.state card.new) } }
+    ensures store_frame { S.frame store.new ≡ S.frame store.old }
+    ensures card_frame { C.frame card.new ≡ C.frame card.old }
 {
     for tick in 0..schedule.len() / 2 {
         let levels = levels_at(schedule, tick);

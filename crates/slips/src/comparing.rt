@@ -25,8 +25,8 @@ pub(crate) fn compare<S: Store, T: Store, C: PortCard>(
     twin_store: &mut T,
     twin_card: &mut C,
 ) -> Slip
-    requires { (length schedule.now ≤ 131072) × ((T.Store.cells twin_store.old ≡ S.Store.cells store.old) × ((rules twin_card.old ≡ rules card.old) × (state twin_card.old ≡ state card.old))) }
-    ensures { SlipOf (powered_place (S.Store.cells store.old) (rules card.old) (state card.old)) (levels_of schedule.now) result }
+    requires { (length schedule.now ≤ 131072) × ((T.Store.cells twin_store.old ≡ S.cells store.old) × ((C.rules twin_card.old ≡ C.rules card.old) × (C.state twin_card.old ≡ C.state card.old))) }
+    ensures { SlipOf (powered_place (S.cells store.old) (C.rules card.old) (C.state card.old)) (levels_of schedule.now) result }
 {
     let (mut machine, key) = power(store, card);
     let mut twin = Processor::new();
@@ -58,8 +58,8 @@ fn tick_both<S: Store, T: Store, C: PortCard>(
     twin_card: &mut C,
     sheet: &mut Sheet,
 ) -> Option<RunFault>
-    requires { (length schedule.now ≤ 131072) × ((situation_of machine.old (S.Store.cells store.old) (rules card.old) (state card.old) ≡ powered_up (S.Store.cells store.old) (rules card.old) (state card.old)) × (kept_of sheet.old (place_of twin.old (T.Store.cells twin_store.old) (rules twin_card.old) (state twin_card.old)) ≡ at_power_up (powered_place (S.Store.cells store.old) (rules card.old) (state card.old)))) }
-    ensures beside { SideBySide (powered_place (S.Store.cells store.old) (rules card.old) (state card.old)) (and_ticks (levels_of schedule.now) (powered_up (S.Store.cells store.old) (rules card.old) (state card.old)) []) (situation_of machine.new (S.Store.cells store.new) (rules card.new) (state card.new)) (kept_of sheet.new (place_of twin.new (T.Store.cells twin_store.new) (rules twin_card.new) (state twin_card.new))) result }
+    requires { (length schedule.now ≤ 131072) × ((situation_of machine.old (S.cells store.old) (C.rules card.old) (C.state card.old) ≡ powered_up (S.cells store.old) (C.rules card.old) (C.state card.old)) × (kept_of sheet.old (place_of twin.old (T.Store.cells twin_store.old) (C.rules twin_card.old) (C.state twin_card.old)) ≡ at_power_up (powered_place (S.cells store.old) (C.rules card.old) (C.state card.old)))) }
+    ensures beside { SideBySide (powered_place (S.cells store.old) (C.rules card.old) (C.state card.old)) (and_ticks (levels_of schedule.now) (powered_up (S.cells store.old) (C.rules card.old) (C.state card.old)) []) (situation_of machine.new (S.cells store.new) (C.rules card.new) (C.state card.new)) (kept_of sheet.new (place_of twin.new (T.Store.cells twin_store.new) (C.rules twin_card.new) (C.state twin_card.new))) result }
     ensures few { Within 65536 sheet.new.counts }
     ensures few_steps { StepsWithin 65536 sheet.new.steps }
 {

@@ -16,8 +16,8 @@ pub(crate) fn feed_twin<S: Store, C: PortCard>(
     store: &mut S,
     card: &mut C,
 ) -> Option<u8>
-    ensures place { place_of twin.new (cells store.new) (rules card.new) (state card.new) ≡ place_fed (begun_of beginning) (place_of twin.old (cells store.old) (rules card.old) (state card.old)) }
-    ensures states { result ≡ states_fed (begun_of beginning) (place_of twin.old (cells store.old) (rules card.old) (state card.old)) }
+    ensures place { place_of twin.new (S.cells store.new) (C.rules card.new) (C.state card.new) ≡ place_fed (begun_of beginning) (place_of twin.old (S.cells store.old) (C.rules card.old) (C.state card.old)) }
+    ensures states { result ≡ states_fed (begun_of beginning) (place_of twin.old (S.cells store.old) (C.rules card.old) (C.state card.old)) }
 {
     match beginning {
         Beginning::Own => take_step(Feed::Own, twin, store, card),
@@ -33,8 +33,8 @@ fn take_step<S: Store, C: PortCard>(
     store: &mut S,
     card: &mut C,
 ) -> Option<u8>
-    ensures place { place_of twin.new (cells store.new) (rules card.new) (state card.new) ≡ (stepped feed (place_of twin.old (cells store.old) (rules card.old) (state card.old))).after }
-    ensures states { result ≡ states_of (stepped feed (place_of twin.old (cells store.old) (rules card.old) (state card.old))).answer }
+    ensures place { place_of twin.new (S.cells store.new) (C.rules card.new) (C.state card.new) ≡ (stepped feed (place_of twin.old (S.cells store.old) (C.rules card.old) (C.state card.old))).after }
+    ensures states { result ≡ states_of (stepped feed (place_of twin.old (S.cells store.old) (C.rules card.old) (C.state card.old))).answer }
 {
     match step(twin, feed, store, card) {
         Ok(stepped) => match stepped {

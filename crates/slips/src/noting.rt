@@ -37,7 +37,7 @@ impl Sheet {
         card: &mut C,
     )
         requires { (Within 65536 self.old.counts) × (StepsWithin 65536 self.old.steps) }
-        ensures kept { kept_of self.new (place_of twin.new (cells store.new) (rules card.new) (state card.new)) ≡ noted jam ticked.now (view_of processor) (kept_of self.old (place_of twin.old (cells store.old) (rules card.old) (state card.old))) }
+        ensures kept { kept_of self.new (place_of twin.new (S.cells store.new) (C.rules card.new) (C.state card.new)) ≡ noted jam ticked.now (view_of processor) (kept_of self.old (place_of twin.old (S.cells store.old) (C.rules card.old) (C.state card.old))) }
         ensures raised { Raised self.old.counts self.new.counts }
         ensures few_steps { self.new.steps.instructions ≤ self.old.steps.instructions + 1 }
         ensures few_states { self.new.steps.table_states ≤ self.old.steps.table_states + 255 }

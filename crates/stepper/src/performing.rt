@@ -16,9 +16,9 @@ pub(crate) fn perform<S: Store, C: PortCard>(
     store: &mut S,
     card: &mut C,
 ) -> Result<u8, Fault>
-    ensures outcome { PerformedBy (performs pc instruction (place_of processor.old (cells store.old) (rules card.old) (state card.old))) result (place_of processor.old (cells store.old) (rules card.old) (state card.old)) (place_of processor.new (cells store.new) (rules card.new) (state card.new)) }
-    ensures store_frame { S.Store.frame store.new ≡ S.Store.frame store.old }
-    ensures card_frame { C.PortCard.frame card.new ≡ C.PortCard.frame card.old }
+    ensures outcome { PerformedBy (performs pc instruction (place_of processor.old (S.cells store.old) (C.rules card.old) (C.state card.old))) result (place_of processor.old (S.cells store.old) (C.rules card.old) (C.state card.old)) (place_of processor.new (S.cells store.new) (C.rules card.new) (C.state card.new)) }
+    ensures store_frame { S.frame store.new ≡ S.frame store.old }
+    ensures card_frame { C.frame card.new ≡ C.frame card.old }
 {
     match instruction {
         Instruction::Input(port) => {
@@ -42,8 +42,8 @@ fn perform_in_memory<S: Store, C: PortCard>(
     card: &C,
 ) -> u8
     requires { goes_to_port instruction ≡ false }
-    ensures outcome { performs pc instruction (place_of processor.old (cells store.old) (rules card.now) (state card.now)) ≡ done (place_of processor.new (cells store.new) (rules card.now) (state card.now)) result }
-    ensures store_frame { S.Store.frame store.new ≡ S.Store.frame store.old }
+    ensures outcome { performs pc instruction (place_of processor.old (S.cells store.old) (C.rules card.now) (C.state card.now)) ≡ done (place_of processor.new (S.cells store.new) (C.rules card.now) (C.state card.now)) result }
+    ensures store_frame { S.frame store.new ≡ S.frame store.old }
 {
     let taken = instruction.taken(&processor.flags);
     let states = instruction.table_states(taken);

@@ -22,12 +22,12 @@ pub fn step<S: Store, C: PortCard>(
     store: &mut S,
     card: &mut C,
 ) -> Result<Stepped, Fault>
-    ensures outcome { stepped feed (place_of processor.old (cells store.old) (rules card.old) (state card.old)) ≡ record { answer = result; after = place_of processor.new (cells store.new) (rules card.new) (state card.new) } }
-    ensures store_frame { S.Store.frame store.new ≡ S.Store.frame store.old }
-    ensures card_frame { C.PortCard.frame card.new ≡ C.PortCard.frame card.old }
-    ensures lawful { LawfulSteps C.PortCard.State }
+    ensures outcome { stepped feed (place_of processor.old (S.cells store.old) (C.rules card.old) (C.state card.old)) ≡ record { answer = result; after = place_of processor.new (S.cells store.new) (C.rules card.new) (C.state card.new) } }
+    ensures store_frame { S.frame store.new ≡ S.frame store.old }
+    ensures card_frame { C.frame card.new ≡ C.frame card.old }
+    ensures lawful { LawfulSteps C.State }
     ensures ring { Moves × RemembersEight × ForgetsTheOldest }
-    ensures examples { ExamplesHold C.PortCard.State }
+    ensures examples { ExamplesHold C.State }
 {
     keep_the_laws(card);
     let pc = processor.ring.pc();
@@ -54,7 +54,7 @@ pub fn step<S: Store, C: PortCard>(
 
 // The proof of the laws. It does nothing.
 fn keep_the_laws<C: PortCard>(_card: &C)
-    ensures lawful { LawfulSteps C.PortCard.State }
+    ensures lawful { LawfulSteps C.State }
     ensures ring { Moves × RemembersEight × ForgetsTheOldest }
-    ensures examples { ExamplesHold C.PortCard.State }
+    ensures examples { ExamplesHold C.State }
 {}
