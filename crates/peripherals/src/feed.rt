@@ -1,6 +1,8 @@
 ghost use Rattle.std.specs.Prelude.{◌≡◌};
 ghost use Rattle.peripherals.specs.Feed.{Feed, FeedFrame, feed_rules, feed_of, wiring_of, feed_frame};
 ghost use Rattle.peripherals.specs.Feed.{unfed, wired, feed_frame_at};
+ghost use Rattle.std.proofs.Common.{arith};
+ghost use Rattle.std.proofs.lemmas.Bool.Decides.{nat_tests};
 
 use bus::{PortCard, Trouble};
 
@@ -67,6 +69,12 @@ impl PortCard for FeedCard<'_, '_> {
     ghost state = { feed_of };
 
     ghost rules = { λ c. feed_rules (wiring_of c) };
+
+    ghost input_ports = { Prim.grind (arith, nat_tests) };
+
+    ghost output_ports_from = { Prim.grind (arith, nat_tests) };
+
+    ghost output_ports_to = { Prim.grind (arith, nat_tests) };
 
     ghost Frame = { FeedFrame };
 
