@@ -16,7 +16,7 @@ use Rattle.stepper.specs.declared.feeds.Feed.{Feed}
 use Rattle.stepper.specs.declared.feeds.Feed.TheVariants.{Own, Jam}
 use Rattle.stepper.specs.declared.feeds.Stepped.TheVariants.{Stopped as StaysStopped, Done}
 use Rattle.stepper.specs.Instructions.{Performed}
-use Rattle.stepper.specs.Steps.{Outcome, first_byte, opened, carried_out, settled, stepped}
+use Rattle.stepper.specs.Steps.{first_byte, opened, carried_out, settled, stepped}
 use Rattle.states.specs.declared.ticks.Levels.{Levels}
 use Rattle.states.specs.declared.ticks.State.{State}
 use Rattle.states.specs.declared.ticks.State.TheVariants as state
@@ -29,12 +29,12 @@ use Rattle.states.specs.declared.in_hand.InHand.{InHand}
 use Rattle.states.specs.declared.in_hand.InHand.TheVariants.{Start, Opening as Opens, Opened, Underway as Goes}
 use Rattle.states.specs.declared.following.Following.{Following}
 use Rattle.states.specs.declared.following.Following.TheVariants.{Phase as Then, Cycle as Enter, End}
-use Rattle.states.specs.Situation.{Situation, situation}
+use Rattle.states.specs.Situation.{Situation}
 use Rattle.states.specs.Sequencing.{next_cycle, following, turns_to}
-use Rattle.states.specs.States.{begins, begins_own, opens, proceeds, proceeds_by, addresses, addressed, moving, having, is_halt, fourth_state}
+use Rattle.states.specs.States.{begins, begins_own, opens, proceeds_by, addressed, moving, having, is_halt, fourth_state}
 use Rattle.states.specs.Transfers.{Moved, from_card, to_card, moves}
 use Rattle.states.specs.Ticks.{Outcome as TickOutcome, quietly, decoded_as, takes, opened as opened_ready, transferred, transfers, goes, ticked_in}
-use Rattle.agreement.specs.InstructionMachine.{Begun, nothing, by_own, by_interrupt, by_jam, begun_after}
+use Rattle.agreement.specs.InstructionMachine.{Begun, by_own, by_interrupt, by_jam, begun_after}
 use Rattle.agreement.proofs.Finish.{moved, after_cycle, rest, finish, finishes, finishes_cycle, finishes-T3, finishes-T4, performs_rest}
 
 -- How a step's instruction began.

@@ -1,5 +1,5 @@
 -- The two engines agree in every history.
-use Rattle.std.proofs.Common.{◌≡◌, ℕ, ◌+◌, ◌-◌, Bool, true, false, eqb, List, [], ◌∷◌, map, Some, None, Ok, Err, Option, Result, sym, refl, ap, ◌∙◌, subst, ap₂, arith}
+use Rattle.std.proofs.Common.{◌≡◌, ℕ, ◌+◌, ◌-◌, true, eqb, List, [], ◌∷◌, map, Some, None, Ok, Err, Option, Result, sym, refl, ap, ◌∙◌, subst, ap₂, arith}
 use Rattle.bus.specs.Store.{answer_at}
 use Rattle.cpu.specs.declared.faults.Fault.{Fault}
 use Rattle.cpu.specs.Place.{Place, writing}
@@ -12,13 +12,13 @@ use Rattle.states.specs.declared.ticks.Levels.{Levels}
 use Rattle.states.specs.declared.ticks.Ticked.{Ticked}
 use Rattle.states.specs.declared.in_hand.InHand.{InHand}
 use Rattle.states.specs.declared.in_hand.InHand.TheVariants.{Start, Opening as Opens, Opened, Underway as Goes}
-use Rattle.states.specs.Situation.{Situation, situation}
+use Rattle.states.specs.Situation.{Situation}
 use Rattle.states.specs.Sequencing.{states_in_hand, sound}
 use Rattle.states.specs.Ticks.{ticked}
 use Rattle.states.specs.TickLaws.{Lawful, states_of}
 use Rattle.states.proofs.Lawful.{lawful}
-use Rattle.agreement.specs.Calls.{Event, tick, hold, examine, deposit, release, Key, run, held, Use, ticks, holds, refuses, examines, deposits, releases, History, powered, then}
-use Rattle.agreement.specs.InstructionMachine.{Item, write, step, Begun, nothing, begun_after, Program, ended, ended_by, tick_adds, adds, program_of, Fed, fed}
+use Rattle.agreement.specs.Calls.{Event, tick, hold, examine, deposit, release, Key, held, ticks, holds, refuses, examines, deposits, releases, History, powered, then}
+use Rattle.agreement.specs.InstructionMachine.{Item, step, Begun, nothing, begun_after, Program, ended_by, tick_adds, adds, program_of, Fed, fed}
 use Rattle.agreement.specs.Agreement.{with_ended, endings_with, endings, Ends, JustEnded, accepted, waited, idled, total, sum, carried_out, EnginesAgree, TicksAddUp, MachinesAgree}
 use Rattle.agreement.proofs.InHand.{begun_by, Matches, Next, NextBy, tick_next}
 

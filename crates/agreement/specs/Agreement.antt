@@ -8,7 +8,7 @@ use Rattle.states.specs.Situation.{Situation}
 use Rattle.states.specs.Sequencing.{states_in_hand}
 use Rattle.states.specs.TickLaws.{wait, idle}
 use Rattle.agreement.specs.Calls.{Event, tick, hold, examine, deposit, release, Key, History}
-use Rattle.agreement.specs.InstructionMachine.{program_of, Fed, fed}
+use Rattle.agreement.specs.InstructionMachine.{program_of, fed}
 
 -- The table states of the instructions that ended, the last first.
 abbrev pub with_ended : Option ℕ → List ℕ → List ℕ

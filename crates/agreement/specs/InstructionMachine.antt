@@ -1,11 +1,11 @@
 -- The instruction machine, and the list that it is fed.
-use Rattle.std.specs.Prelude.{ℕ, Bool, true, false, cond, List, [], ◌∷◌, Some, None, Ok, Err, Option, Result, ◌==◌}
+use Rattle.std.specs.Prelude.{ℕ, Bool, cond, List, [], ◌∷◌, Some, None, Ok, Err, Option, Result, ◌==◌}
 use Rattle.cpu.specs.declared.faults.Fault.{Fault}
 use Rattle.cpu.specs.Place.{Place, writing}
 use Rattle.stepper.specs.declared.feeds.Feed.{Feed}
 use Rattle.stepper.specs.declared.feeds.Feed.TheVariants.{Own, Jam}
 use Rattle.stepper.specs.declared.feeds.Stepped.{Stepped}
-use Rattle.stepper.specs.Steps.{Outcome, stepped}
+use Rattle.stepper.specs.Steps.{stepped}
 use Rattle.states.specs.declared.ticks.Levels.{Levels}
 use Rattle.states.specs.declared.ticks.State.{State}
 use Rattle.states.specs.declared.ticks.State.TheVariants.{T1, T1I, T2, Wait, T3, T4, T5, Stopped}

@@ -1,1 +1,2 @@
 // The agreement of the two engines.
+#![tactic(auto)]

@@ -1,5 +1,5 @@
 -- The eight groups, and counting up and down.
-use Rattle.std.specs.Prelude.{ℕ, ◌+◌, ◌-◌, ◌%◌, Bool, true, false, bit_and, bit_or, bit_xor, nat_lt}
+use Rattle.std.specs.Prelude.{ℕ, ◌+◌, ◌-◌, ◌%◌, Bool, false, bit_and, bit_or, bit_xor, nat_lt}
 use Rattle.isa.specs.Conditions.{bit}
 use Rattle.isa.specs.declared.instructions.Group.{Group}
 use Rattle.isa.specs.declared.instructions.Group.TheVariants.{Add, AddCarry, Subtract, SubtractBorrow, And, Xor, Or, Compare}

@@ -1,4 +1,5 @@
 // What the arithmetic unit of the Intel 8008 makes of its operands, and what it does to the flags.
+#![tactic(auto)]
 
 mod arithmetic;
 mod outcomes;

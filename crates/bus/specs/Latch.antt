@@ -1,5 +1,5 @@
 -- The latch card: what it holds, its rules, and what each call on it comes to.
-use Rattle.std.specs.Prelude.{ℕ, ◌-◌, Bool, true, false, cond, ◌&&◌, List, set, replicate, Ok, Err, Result, nat_le, nat_lt, slice_index, slice_index_or, slice_set}
+use Rattle.std.specs.Prelude.{ℕ, ◌-◌, Bool, true, false, cond, ◌&&◌, List, replicate, Ok, Err, Result, nat_le, nat_lt, slice_index, slice_index_or, slice_set}
 use Rattle.bus.specs.declared.cards.Trouble.{Trouble}
 use Rattle.bus.specs.declared.cards.Trouble.TheVariants.{NoCard}
 use Rattle.bus.specs.declared.latches.LatchCard.{LatchCard}

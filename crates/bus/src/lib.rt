@@ -1,5 +1,6 @@
 // What an Intel 8008 processor is wired to: a store of 16,384 cells, and the cards at its ports.
 // The traits say what every store and every card owes; a flat store and a card of latches meet them.
+#![tactic(auto)]
 
 mod cards;
 mod flat;

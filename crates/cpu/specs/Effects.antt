@@ -1,5 +1,5 @@
 -- The effect column of the instruction table: what each instruction does to the processor.
-use Rattle.std.specs.Prelude.{ℕ, ◌+◌, ◌*◌, ◌%◌, Bool, true, false, cond}
+use Rattle.std.specs.Prelude.{ℕ, ◌+◌, ◌*◌, ◌%◌, Bool, true, cond}
 use Rattle.isa.specs.declared.register_file.Register.{Register}
 use Rattle.isa.specs.declared.register_file.Register.TheVariants.{A}
 use Rattle.isa.specs.declared.instructions.Group.{Group}

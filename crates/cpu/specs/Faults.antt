@@ -4,7 +4,6 @@ use Rattle.bus.specs.declared.cards.Trouble.{Trouble}
 use Rattle.bus.specs.declared.cards.Trouble.TheVariants.{NoCard as NoCardThere, Spent as CardSpent}
 use Rattle.cpu.specs.declared.faults.Cause.{Cause}
 use Rattle.cpu.specs.declared.faults.Cause.TheVariants.{NoCard, Spent, NoInstruction}
-use Rattle.cpu.specs.declared.faults.Layer.{Layer}
 use Rattle.cpu.specs.declared.faults.Layer.TheVariants.{Decoder, PortCard}
 use Rattle.cpu.specs.declared.faults.Fault.{Fault}
 

@@ -1,6 +1,5 @@
 -- What a processor holds from one instruction to the next.
 use Rattle.std.specs.Prelude.{ℕ, Bool, true, false}
-use Rattle.isa.specs.declared.register_file.Register.{Register}
 use Rattle.isa.specs.declared.register_file.Registers.{Registers}
 use Rattle.isa.specs.declared.conditions.Flags.{Flags}
 use Rattle.cpu.specs.declared.processors.Processor.{Processor}

@@ -1,5 +1,6 @@
 // The processor of the Intel 8008: its registers, flags and address ring, and what each instruction does
 // to them.
+#![tactic(auto)]
 
 mod address_ring;
 mod effects;

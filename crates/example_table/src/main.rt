@@ -1,4 +1,5 @@
 // Compares worked examples with what comes of them: refusals with their places, and the trace of a string search.
+#![tactic(auto)]
 
 mod comparing;
 mod refusals;

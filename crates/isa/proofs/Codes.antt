@@ -1,5 +1,5 @@
 -- Each code of the instruction table decodes to its instruction.
-use Rattle.std.proofs.Common.{◌≡◌, ℕ, zero, suc, ◌+◌, ◌*◌, ◌/◌, ◌%◌, ◌<◌, Bool, true, false, ◌&&◌, eqb, ltb, leb, Some, refl, ap, ◌∙◌, inl, inr, arith, lit<}
+use Rattle.std.proofs.Common.{◌≡◌, ℕ, zero, suc, ◌/◌, ◌%◌, ◌<◌, Bool, true, false, ◌&&◌, eqb, ltb, leb, Some, refl, ap, ◌∙◌, inl, inr, arith, lit<}
 use Rattle.std.proofs.lemmas.Bool.{eqb-true, ltb-true, leb-true, le-ltb, and_parts, or_cases, false≢true, cond-true, cond-false}
 use Rattle.isa.specs.declared.register_file.Register.{Register}
 use Rattle.isa.specs.declared.register_file.Register.TheVariants.{A, B, C, D, E, H, L}
@@ -16,7 +16,7 @@ use Rattle.isa.specs.declared.instructions.Instruction.TheVariants.{Load, LoadMe
 use Rattle.isa.specs.RegisterFile.{register_code, register_of}
 use Rattle.isa.specs.Conditions.{condition_code, condition_of}
 use Rattle.isa.specs.Codes.{group_code, rotation_code, bits, port_bits, any_middle, has_code}
-use Rattle.isa.specs.Decoding.{group_of, rotation_of, port_of, quarter1, by_fields, decoded}
+use Rattle.isa.specs.Decoding.{group_of, port_of, quarter1, by_fields, decoded}
 
 -- The fields of hh mmm lll are hh, mmm and lll.
 fields : (h m l : ℕ) → h < 4 → m < 8 → l < 8 → decoded (bits h m l) ≡ by_fields h (bits h m l / 2 % 32) m l

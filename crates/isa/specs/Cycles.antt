@@ -1,5 +1,5 @@
 -- The states column of the instruction table: the cycles of each instruction, what each moves and how many states it takes.
-use Rattle.std.specs.Prelude.{◌≡◌, ℕ, ◌+◌, Bool, true, false, cond, is_some, Some, None, Option, nat_lt}
+use Rattle.std.specs.Prelude.{◌≡◌, ℕ, ◌+◌, Bool, true, cond, is_some, Some, None, Option, nat_lt}
 use Rattle.isa.specs.declared.conditions.Flags.{Flags}
 use Rattle.isa.specs.declared.instructions.Operand.{Operand}
 use Rattle.isa.specs.declared.instructions.Operand.TheVariants.{Register as Reg, Memory, Immediate}

@@ -2,7 +2,6 @@
 use Rattle.std.specs.Prelude.{ℕ, Bool, cond, ◌&&◌, Ok, Err, Result, nat_le, nat_lt}
 use Rattle.isa.specs.declared.refusals.Refusal.{Refusal}
 use Rattle.isa.specs.declared.refusals.Refusal.TheVariants.{NoInstruction}
-use Rattle.isa.specs.declared.register_file.Register.{Register}
 use Rattle.isa.specs.declared.conditions.Condition.{Condition}
 use Rattle.isa.specs.declared.conditions.Condition.TheVariants.{Always, When}
 use Rattle.isa.specs.declared.instructions.Group.{Group}

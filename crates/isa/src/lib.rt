@@ -1,5 +1,6 @@
 // The instruction set of the Intel 8008: what there is to name, how it is coded in bytes, and how many
 // cycles and states each instruction takes.
+#![tactic(auto)]
 
 mod conditions;
 mod cycles;

@@ -1,5 +1,6 @@
 // The state engine: a processor that goes state by state, with each WAIT and each interrupt as the Intel
 // 8008 made them.
+#![tactic(auto)]
 
 mod holding;
 mod keys;

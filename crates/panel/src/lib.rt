@@ -1,5 +1,6 @@
 // The front panel: a machine with its store and its port card, worked by lines of text. Each line is one
 // command, and each answer is one line of named fields.
+#![tactic(auto)]
 
 mod answers;
 mod commands;

@@ -1,5 +1,6 @@
 // The front panel as a program: loads a tape into a store, powers a machine up over it, and carries out the
 // commands that standard input has, one to a line.
+#![tactic(auto)]
 
 mod arguments;
 mod session;

@@ -1,5 +1,5 @@
 -- The feed card: a lent list at one input port, a lent buffer at one output port.
-use Rattle.std.specs.Prelude.{ℕ, ◌+◌, Bool, cond, ◌&&◌, List, length, Ok, Err, Result, ◌==◌, nat_lt, slice_index, slice_set}
+use Rattle.std.specs.Prelude.{ℕ, ◌+◌, cond, ◌&&◌, List, length, Ok, Err, Result, ◌==◌, nat_lt, slice_index, slice_set}
 use Rattle.bus.specs.declared.cards.Trouble.{Trouble}
 use Rattle.bus.specs.declared.cards.Trouble.TheVariants.{NoCard, Spent}
 use Rattle.bus.specs.Card.{Clear, Rules}

@@ -1,6 +1,6 @@
 -- The shift store: cells 0800H to 0BFFH in a lent ring of shift registers.
 use Rattle.std.specs.Prelude.{ℕ, ◌+◌, ◌-◌, ◌%◌, min, Bool, cond, ◌&&◌, List, length, drop, nat_le, nat_lt, slice_index}
-use Rattle.bus.specs.Store.{Kind, ram, Cell, Cells}
+use Rattle.bus.specs.Store.{ram, Cells}
 use Rattle.bus.specs.Flat.{absent}
 use Rattle.peripherals.specs.declared.shift.ShiftStore.{ShiftStore}
 

@@ -1,5 +1,6 @@
 // Reads a BNPF tape from standard input, runs it from power-up and prints one line that says what the
 // processor did.
+#![tactic(auto)]
 
 use runner::run_tape;
 use std::io;

@@ -1,4 +1,5 @@
 // Runs a tape from power-up until the processor halts, and says what came of it.
+#![tactic(auto)]
 
 mod running;
 mod tallies;

@@ -1,5 +1,5 @@
 -- The laws of runs: what they count adds up, they end where they say, and ticks that are cut in two come to the two parts.
-use Rattle.std.proofs.Common.{◌≡◌, ℕ, suc, ◌+◌, true, List, [], ◌∷◌, ◌++◌, length, Some, None, Ok, Err, Option, Result, sym, refl, ap, ◌∙◌, arith}
+use Rattle.std.proofs.Common.{◌≡◌, ℕ, suc, ◌+◌, true, List, [], ◌∷◌, length, Some, None, Ok, Err, Option, Result, sym, refl, ap, ◌∙◌, arith}
 use Rattle.cpu.specs.declared.faults.Fault.{Fault}
 use Rattle.states.specs.declared.ticks.Levels.{Levels}
 use Rattle.states.specs.declared.ticks.Ticked.{Ticked}

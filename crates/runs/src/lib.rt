@@ -1,4 +1,5 @@
 // Runs of a machine over a schedule: ticks in a row, and what they add up to.
+#![tactic(auto)]
 
 mod outcomes;
 mod refusals;

@@ -1,5 +1,6 @@
 // Runs a table of schedules, each row over a fresh machine, and compares what each run answers with what is
 // expected.
+#![tactic(auto)]
 
 mod lines;
 mod rows;

@@ -1,5 +1,6 @@
 // Holds a machine that was just powered up, looks into a cell, writes to it, looks again, releases the machine
 // and ticks it. It prints what came of each call.
+#![tactic(auto)]
 
 use bus::{FlatStore, LatchCard, Written};
 use machine::power;

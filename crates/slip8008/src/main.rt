@@ -1,5 +1,6 @@
 // Reads a BNPF tape from standard input, runs it on both engines over the schedule that the arguments describe, and
 // prints what each engine came to, side by side.
+#![tactic(auto)]
 
 mod arguments;
 

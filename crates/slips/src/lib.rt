@@ -1,4 +1,5 @@
 // The slip that goes out with a card: one tape and one schedule on both engines, and what each came to.
+#![tactic(auto)]
 
 mod agreeing;
 mod beginnings;

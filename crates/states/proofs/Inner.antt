@@ -1,15 +1,12 @@
 -- The laws of a tick that concern hand and processor alone.
-use Rattle.std.proofs.Common.{◌≡◌, ℕ, suc, ◌+◌, ◌<◌, ◌≤◌, Bool, true, false, cond, not, ◌&&◌, eqb, ltb, Some, None, Option, sym, refl, ap, ◌∙◌, arith, lit≤}
-use Rattle.std.proofs.lemmas.Bool.{ltb-true, and_parts}
+use Rattle.std.proofs.Common.{◌≡◌, ℕ, suc, ◌+◌, ◌≤◌, Bool, true, false, cond, ◌&&◌, eqb, Some, None, sym, refl, ◌∙◌, arith, lit≤}
 use Rattle.isa.specs.declared.instructions.Instruction.{Instruction}
 use Rattle.isa.specs.declared.instructions.Instruction.TheVariants.{Load, LoadMemory, StoreMemory, LoadImmediate, StoreImmediate, Increment, Decrement, Arithmetic, Rotate, Jump, Call, Return, Restart, Input, Output, Halt}
 use Rattle.isa.specs.declared.cycles.Cycle.{Cycle}
 use Rattle.isa.specs.declared.cycles.Cycle.TheVariants.{First, Second, Third}
-use Rattle.isa.specs.declared.cycles.Transfer.{Transfer}
-use Rattle.isa.specs.declared.cycles.Transfer.TheVariants.{Fetch, Read, WriteRegister, WriteImmediate, Input as FromPort, Output as ToPort}
-use Rattle.isa.specs.Cycles.{cycle_number, states_in, transfer_in}
+use Rattle.isa.specs.Cycles.{cycle_number}
 use Rattle.cpu.specs.AddressRing.{advanced}
-use Rattle.cpu.specs.Processor.{View, advancing}
+use Rattle.cpu.specs.Processor.{View}
 use Rattle.cpu.specs.Effects.{finished}
 use Rattle.states.specs.declared.ticks.State.{State}
 use Rattle.states.specs.declared.ticks.State.TheVariants as state
@@ -18,13 +15,13 @@ use Rattle.states.specs.declared.in_hand.Phase.TheVariants.{T1, T2, T3, T4, T5}
 use Rattle.states.specs.declared.in_hand.Opening.{Opening}
 use Rattle.states.specs.declared.in_hand.Underway.{Underway}
 use Rattle.states.specs.declared.in_hand.InHand.{InHand}
-use Rattle.states.specs.declared.in_hand.InHand.TheVariants.{Start, Opening as Opens, Opened, Underway as Goes}
+use Rattle.states.specs.declared.in_hand.InHand.TheVariants.{Start, Opening as Opens, Opened}
 use Rattle.states.specs.declared.following.Following.{Following}
 use Rattle.states.specs.declared.following.Following.TheVariants.{Phase as Then, Cycle as Enter, End}
-use Rattle.states.specs.Sequencing.{following, phases_before, cycles_before, after_opening, states_in_hand, sound}
-use Rattle.states.specs.States.{Quiet, begins, begins_own, opens, waits_opened, waits_underway, proceeds, proceeds_by, addresses, moving, having, is_halt, fourth_state}
-use Rattle.states.specs.TickLaws.{fetches, is_fetch, stopped_after, wait_in, wait, idle, states_of}
-use Rattle.states.proofs.Spending.{Spent, spends, lasts}
+use Rattle.states.specs.Sequencing.{phases_before, cycles_before, after_opening, states_in_hand, sound}
+use Rattle.states.specs.States.{Quiet, begins, begins_own, opens, waits_opened, proceeds_by, is_halt}
+use Rattle.states.specs.TickLaws.{fetches, stopped_after, wait_in, wait, idle, states_of}
+use Rattle.states.proofs.Spending.{Spent}
 
 pub record Inner (h : InHand) (v : View) (q : Quiet) : Type 0 where
   pub waits : q.told.state ≡ state.Wait → (q.hand ≡ h) × (q.processor ≡ v)

@@ -1,5 +1,5 @@
 -- An instruction lasts its table states and its waits.
-use Rattle.std.proofs.Common.{◌≡◌, ℕ, suc, ◌+◌, true, cond, eqb, refl, ap, ◌∙◌, arith}
+use Rattle.std.proofs.Common.{◌≡◌, ℕ, ◌+◌, true, ap, arith}
 use Rattle.std.proofs.lemmas.Bool.{ne_eqb}
 use Rattle.states.specs.declared.ticks.Ticked.{Ticked}
 use Rattle.states.specs.declared.in_hand.InHand.TheVariants.{Start}

@@ -20,7 +20,7 @@ use Rattle.states.specs.declared.in_hand.Opening.{Opening}
 use Rattle.states.specs.declared.in_hand.Underway.{Underway}
 use Rattle.states.specs.declared.in_hand.InHand.{InHand}
 use Rattle.states.specs.declared.in_hand.InHand.TheVariants.{Start, Opening as Opens, Opened, Underway as Goes}
-use Rattle.states.specs.Situation.{Situation, situation}
+use Rattle.states.specs.Situation.{situation}
 use Rattle.states.specs.Sequencing.{states_in_hand, sound}
 use Rattle.states.specs.States.{Quiet, begins, begins_own, addressed, proceeds, having}
 use Rattle.states.specs.Transfers.{Moved, from_card, to_card, moves}

@@ -1,5 +1,5 @@
 -- Each state of an instruction under way keeps the laws of hand and processor.
-use Rattle.std.proofs.Common.{◌≡◌, ℕ, suc, ◌+◌, ◌<◌, ◌≤◌, Bool, true, false, cond, ◌&&◌, ltb, ◌⊎◌, Some, None, Option, sym, refl, ap, ◌∙◌, subst, inl, inr, arith, lit<, lit≤}
+use Rattle.std.proofs.Common.{◌≡◌, ℕ, ◌+◌, ◌<◌, Bool, true, false, cond, ltb, ◌⊎◌, Some, None, Option, sym, refl, ap, ◌∙◌, inl, inr, arith, lit≤}
 use Rattle.std.proofs.lemmas.Bool.{ltb-true, and_parts}
 use Rattle.isa.specs.declared.instructions.Instruction.{Instruction}
 use Rattle.isa.specs.declared.instructions.Instruction.TheVariants.{Load, LoadMemory, StoreMemory, LoadImmediate, StoreImmediate, Increment, Decrement, Arithmetic, Rotate, Jump, Call, Return, Restart, Input, Output, Halt}
@@ -7,24 +7,24 @@ use Rattle.isa.specs.declared.cycles.Cycle.{Cycle}
 use Rattle.isa.specs.declared.cycles.Cycle.TheVariants.{First, Second, Third}
 use Rattle.isa.specs.declared.cycles.Transfer.{Transfer}
 use Rattle.isa.specs.declared.cycles.Transfer.TheVariants.{Fetch, Read, WriteRegister, WriteImmediate, Input as FromPort, Output as ToPort}
-use Rattle.isa.specs.Cycles.{cycle_number, states_in, table_states_of, transfer_in}
+use Rattle.isa.specs.Cycles.{states_in, table_states_of, transfer_in}
 use Rattle.cpu.specs.AddressRing.{advanced}
 use Rattle.cpu.specs.Processor.{View, pc_in}
 use Rattle.states.specs.declared.ticks.State.TheVariants as state
 use Rattle.states.specs.declared.in_hand.Phase.{Phase}
-use Rattle.states.specs.declared.in_hand.Phase.TheVariants.{T1, T2, T3, T4, T5}
+use Rattle.states.specs.declared.in_hand.Phase.TheVariants.{T1, T2, T3, T5}
 use Rattle.states.specs.declared.in_hand.Opening.{Opening}
 use Rattle.states.specs.declared.in_hand.Underway.{Underway}
 use Rattle.states.specs.declared.in_hand.InHand.TheVariants.{Start, Opening as Opens, Opened, Underway as Goes}
 use Rattle.states.specs.declared.following.Following.{Following}
 use Rattle.states.specs.declared.following.Following.TheVariants.{Phase as Then, Cycle as Enter, End}
-use Rattle.states.specs.Sequencing.{following, phases_before, cycles_before, after_opening, states_in_hand, sound}
-use Rattle.states.specs.States.{Quiet, waits_underway, ended_by, proceeds, proceeds_by, addresses, addressed, moving, having, is_halt, fourth_state}
+use Rattle.states.specs.Sequencing.{following, phases_before, cycles_before, after_opening, sound}
+use Rattle.states.specs.States.{waits_underway, ended_by, proceeds, proceeds_by, addresses, addressed, moving, having, is_halt, fourth_state}
 use Rattle.states.specs.Ticks.{decoded_as}
 use Rattle.states.specs.TickLaws.{is_fetch, stopped_after, ZeroAtAStart}
 use Rattle.states.proofs.Rows.{fine}
-use Rattle.states.proofs.Spending.{Spent, spends, lasts}
-use Rattle.states.proofs.Inner.{Inner, Plain, plain-T1, plain-T3, plain-T5, plain_fourth, Past, past, StopsAtEnd, never, numbered, busy, both, stays_open, proceeds_inner}
+use Rattle.states.proofs.Spending.{Spent, spends}
+use Rattle.states.proofs.Inner.{Inner, plain-T1, plain-T3, plain-T5, plain_fourth, past, never, numbered, busy, both, stays_open, proceeds_inner}
 
 -- What a sound hand says of its instruction under way.
 pub record Sound (w : Underway) : Type 0 where

@@ -1,7 +1,7 @@
 -- Each state of an instruction under way is spent: the states in hand grow by one, or the instruction ends with the table's
 -- states.
-use Rattle.std.proofs.Common.{◌≡◌, ℕ, suc, ◌+◌, ◌<◌, ◌≤◌, Bool, true, false, cond, ◌&&◌, ltb, ◌⊎◌, sym, refl, ◌∙◌, inl, inr, arith}
-use Rattle.std.proofs.lemmas.Bool.{ltb-true, lt-ltb, ltb-false, cond_both, and_parts}
+use Rattle.std.proofs.Common.{◌≡◌, ℕ, suc, ◌+◌, ◌<◌, Bool, true, ltb, arith}
+use Rattle.std.proofs.lemmas.Bool.{lt-ltb, ltb-false, cond_both}
 use Rattle.isa.specs.declared.instructions.Instruction.{Instruction}
 use Rattle.isa.specs.declared.cycles.Cycle.{Cycle}
 use Rattle.isa.specs.declared.cycles.Cycle.TheVariants.{First, Second, Third}
@@ -10,7 +10,7 @@ use Rattle.states.specs.declared.in_hand.Phase.{Phase}
 use Rattle.states.specs.declared.in_hand.Phase.TheVariants.{T1, T2, T3, T4, T5}
 use Rattle.states.specs.declared.following.Following.{Following}
 use Rattle.states.specs.declared.following.Following.TheVariants.{Phase as Then, Cycle as Enter, End}
-use Rattle.states.specs.Sequencing.{next_cycle, following, phases_before, cycles_before, after_opening}
+use Rattle.states.specs.Sequencing.{next_cycle, following, phases_before, cycles_before}
 use Rattle.states.proofs.Rows.{Lasting, fine}
 
 -- What follows a state of so many spent before it, by what it is.

@@ -6,7 +6,6 @@ use Rattle.isa.specs.declared.cycles.Cycle.TheVariants.{First, Second, Third}
 use Rattle.isa.specs.Cycles.{states_in}
 use Rattle.states.specs.declared.in_hand.Phase.{Phase}
 use Rattle.states.specs.declared.in_hand.Phase.TheVariants.{T1, T2, T3, T4, T5}
-use Rattle.states.specs.declared.in_hand.Opening.{Opening}
 use Rattle.states.specs.declared.in_hand.Underway.{Underway}
 use Rattle.states.specs.declared.in_hand.InHand.{InHand}
 use Rattle.states.specs.declared.in_hand.InHand.TheVariants.{Start, Opening as Opens, Opened, Underway as Goes}

@@ -1,4 +1,5 @@
 // The states of the Intel 8008: how far an instruction is, which state comes next, and what each does.
+#![tactic(auto)]
 
 mod following;
 mod in_hand;

@@ -1,5 +1,6 @@
 // Reads a BNPF tape from standard input, steps it instruction by instruction from power-up and prints one line
 // that says what the processor did.
+#![tactic(auto)]
 
 use runner::step_tape;
 use std::io;

@@ -1,5 +1,5 @@
 -- Every step keeps the laws.
-use Rattle.std.proofs.Common.{◌≡◌, ℕ, Bool, true, false, cond, Some, None, Ok, Err, Option, Result, sym, refl, ap, ◌∙◌, subst, arith}
+use Rattle.std.proofs.Common.{◌≡◌, ℕ, Bool, true, false, cond, Some, None, Ok, Err, Option, Result, refl, subst, arith}
 use Rattle.isa.specs.declared.instructions.Operand.TheVariants.{Register as Reg, Memory, Immediate}
 use Rattle.isa.specs.declared.instructions.Instruction.{Instruction}
 use Rattle.isa.specs.declared.instructions.Instruction.TheVariants.{Load, LoadMemory, StoreMemory, LoadImmediate, StoreImmediate, Increment, Decrement, Arithmetic, Rotate, Jump, Call, Return, Restart, Input, Output, Halt}
@@ -15,7 +15,7 @@ use Rattle.stepper.specs.declared.feeds.Feed.TheVariants.{Own, Jam}
 use Rattle.stepper.specs.declared.feeds.Stepped.{Stepped}
 use Rattle.stepper.specs.declared.feeds.Stepped.TheVariants.{Stopped, Done}
 use Rattle.stepper.specs.Instructions.{Performed, done, doing, fetched, target_next, jumping, calling, returning, inputs, outputs, performs}
-use Rattle.stepper.specs.Steps.{Outcome, first_byte, opened, carried_out, settled, taken_from, stepped}
+use Rattle.stepper.specs.Steps.{first_byte, opened, carried_out, settled, taken_from}
 use Rattle.stepper.specs.StepLaws.{DoneBy, Awake, Lawful, LawfulSteps}
 
 -- Nothing holds of what cannot be.

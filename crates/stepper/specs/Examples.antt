@@ -5,7 +5,6 @@ use Rattle.isa.specs.declared.register_file.Register.TheVariants.{A, B}
 use Rattle.isa.specs.RegisterFile.{replaced}
 use Rattle.bus.specs.Store.{Cells, ram}
 use Rattle.bus.specs.Card.{Rules}
-use Rattle.cpu.specs.AddressRing.{zero_ring}
 use Rattle.cpu.specs.Processor.{View, powered, with_registers, with_flags, with_ring, with_stopped, pc_in}
 use Rattle.cpu.specs.Place.{Place}
 use Rattle.stepper.specs.declared.feeds.Feed.{Feed}

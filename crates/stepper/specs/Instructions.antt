@@ -1,9 +1,6 @@
 -- What each instruction does, from the place where its first byte is taken: the rows of the instruction table, in its order.
-use Rattle.std.specs.Prelude.{ℕ, ◌+◌, ◌*◌, Bool, true, false, cond, Ok, Err, Result}
-use Rattle.isa.specs.declared.register_file.Register.{Register}
+use Rattle.std.specs.Prelude.{ℕ, ◌*◌, Bool, true, false, cond, Ok, Err, Result}
 use Rattle.isa.specs.declared.register_file.Register.TheVariants.{A}
-use Rattle.isa.specs.declared.conditions.Condition.{Condition}
-use Rattle.isa.specs.declared.instructions.Operand.{Operand}
 use Rattle.isa.specs.declared.instructions.Operand.TheVariants.{Register as Reg, Memory, Immediate}
 use Rattle.isa.specs.declared.instructions.Instruction.{Instruction}
 use Rattle.isa.specs.declared.instructions.Instruction.TheVariants.{Load, LoadMemory, StoreMemory, LoadImmediate, StoreImmediate, Increment, Decrement, Arithmetic, Rotate, Jump, Call, Return, Restart, Input, Output, Halt}

@@ -1,5 +1,5 @@
 -- One step.
-use Rattle.std.specs.Prelude.{◌≡◌, ℕ, Bool, true, false, cond, Some, None, Ok, Err, Option, Result}
+use Rattle.std.specs.Prelude.{◌≡◌, ℕ, false, cond, Some, None, Ok, Err, Option, Result}
 use Rattle.isa.specs.declared.instructions.Instruction.{Instruction}
 use Rattle.isa.specs.Decoding.{decoded}
 use Rattle.cpu.specs.declared.faults.Fault.{Fault}

@@ -1,4 +1,5 @@
 // The instruction engine: a processor that goes instruction by instruction.
+#![tactic(auto)]
 
 mod feeds;
 mod fetching;

@@ -1,4 +1,6 @@
 // Reads BNPF paper tapes, the form in which the programs of PROMs were punched.
+#![tactic(auto)]
+
 mod reader;
 mod refusals;
 

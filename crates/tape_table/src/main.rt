@@ -1,4 +1,5 @@
 // Runs a table of tapes, each over a fresh memory, and compares the line of each with the expected one.
+#![tactic(auto)]
 
 ghost use Rattle.std.specs.Prelude.{◌≡◌, ◌*◌, IfOk, vec_len};
 
