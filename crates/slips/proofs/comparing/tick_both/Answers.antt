@@ -26,7 +26,7 @@ returns-in-Err g c =
     record {
       beside = same_calls
           (sym (stops c.args.schedule.now c.loop-tick.tick _ _ _ _ inv.0 c.loop-tick-test.true
-          (c.levels-at-levels.ensures.within c.loop-tick-test.true) made.outcome) ∙ inv.2)
+          (c.levels_at-levels.ensures.within c.loop-tick-test.true) made.outcome) ∙ inv.2)
           (refused _ inv.0 _ _ _ _ _ _ inv.1 made.outcome inv.3);
       few = search rules;
       few_steps = search rules;
@@ -37,10 +37,10 @@ loop-tick-preserved g c =
     let made = c.in-Ok.ensures in
     let inv = c.loop-tick.invariant in
     let up = c.note.ensures.raised in (
-      tick c.levels-at-levels.result (Ok c.in-Ok.ticked) ∷ inv.0,
+      tick c.levels_at-levels.result (Ok c.in-Ok.ticked) ∷ inv.0,
       accepted _ inv.0 _ _ _ _ _ _ _ inv.1 made.outcome (ap view_of c.processor.ensures) c.note.ensures.kept,
       sym (goes_on c.args.schedule.now c.loop-tick.tick _ _ _ _ inv.0 c.loop-tick-test.true
-          (c.levels-at-levels.ensures.within c.loop-tick-test.true) made.outcome) ∙ inv.2,
+          (c.levels_at-levels.ensures.within c.loop-tick-test.true) made.outcome) ∙ inv.2,
       omega arith,
       record { ticks = omega arith; instructions = omega arith; table_states = omega arith; waits = omega arith; idle = omega arith },
       record { instructions = omega arith; table_states = omega arith },

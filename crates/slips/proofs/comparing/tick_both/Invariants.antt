@@ -16,7 +16,7 @@ invariant-loop-tick g l =
     (es : List Event) ×
     SideBySide (powered_place (g.S.Store.cells l.initial.store) (g.C.PortCard.rules l.initial.card) (g.C.PortCard.state l.initial.card)) es
     (situation_of l.machine (g.S.Store.cells l.store) (g.C.PortCard.rules l.card) (g.C.PortCard.state l.card))
-    (kept_of l.sheet (place_of l.twin (g.T.Store.cells l.twin-store) (g.C.PortCard.rules l.twin-card) (g.C.PortCard.state l.twin-card))) None ×
+    (kept_of l.sheet (place_of l.twin (g.T.Store.cells l.twin_store) (g.C.PortCard.rules l.twin_card) (g.C.PortCard.state l.twin_card))) None ×
     (and_ticks (levels_of (drop (2 * l.tick) l.schedule)) (situation_of l.machine (g.S.Store.cells l.store) (g.C.PortCard.rules l.card) (g.C.PortCard.state l.card)) es ≡
     and_ticks (levels_of l.schedule) (powered_up (g.S.Store.cells l.initial.store) (g.C.PortCard.rules l.initial.card) (g.C.PortCard.state l.initial.card)) []) ×
     (l.sheet.counts.ticks ≡ l.tick) × Within l.tick l.sheet.counts × StepsWithin l.tick l.sheet.steps

@@ -1,5 +1,5 @@
 use Rattle.std.proofs.Common.{◌∙◌}
 use Rattle.slips.proofs.making.make_slip.Goals as goal
 
-pub slip-tape-requires : goal.slip-tape-requires
-slip-tape-requires c = c.deref-mut.ensures.value ∙ c.in-Ok.ensures
+pub slip_tape-requires : goal.slip_tape-requires
+slip_tape-requires c = c.deref_mut.ensures.value ∙ c.in-Ok.ensures
