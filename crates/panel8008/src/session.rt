@@ -5,7 +5,10 @@ use std::io::{BufRead, BufReader};
 
 // Carries out the commands of standard input, up to its end, and answers the key that is then in hand.
 pub fn converse(rt: &HostRuntime, panel: &mut Panel<FlatStore>, key: Key) -> (Key, io::Result<()>) {
-    let mut input = BufReader::new(rt.stdin());
+    let mut input = match BufReader::new(rt.alloc(), rt.stdin()) {
+        Ok(input) => input,
+        Err(error) => return (key, Err(error)),
+    };
     let mut line = Vec::new(rt.alloc());
     let mut schedule = Vec::new(rt.alloc());
     let mut key = key;
