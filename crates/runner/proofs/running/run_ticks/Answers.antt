@@ -11,12 +11,12 @@ returns-in-Err g c =
       card_frame = tick.card_frame ∙ c.loop-tick.invariant.6;
     }
 
-pub returns-then-ends-halt : goal.returns-then-ends-halt
-returns-then-ends-halt g c =
+pub returns-then-ends_halt : goal.returns-then-ends_halt
+returns-then-ends_halt g c =
     let tick = c.in-Ok.ensures in
     record {
       outcome = c.loop-tick.invariant.0 ∙
-          halt_ends c.args.ticks c.loop-tick.tick _ _ _ _ _ _ _ c.loop-tick-test.true c.levels.ensures tick.outcome c.count-tally.ensures.value (sym c.if-ends-halt.ensures);
+          halt_ends c.args.ticks c.loop-tick.tick _ _ _ _ _ _ _ c.loop-tick-test.true c.levels.ensures tick.outcome c.count-tally.ensures.value (sym c.if-ends_halt.ensures);
       store_frame = tick.store_frame ∙ c.loop-tick.invariant.5;
       card_frame = tick.card_frame ∙ c.loop-tick.invariant.6;
     }
@@ -26,7 +26,7 @@ loop-tick-preserved g c =
     let tick = c.in-Ok.ensures in
     let w = c.count-tally.ensures.within in (
       c.loop-tick.invariant.0 ∙
-          goes_on c.args.ticks c.loop-tick.tick _ _ _ _ _ _ _ c.loop-tick-test.true c.levels.ensures tick.outcome c.count-tally.ensures.value (sym c.if-ends-halt.ensures),
+          goes_on c.args.ticks c.loop-tick.tick _ _ _ _ _ _ _ c.loop-tick-test.true c.levels.ensures tick.outcome c.count-tally.ensures.value (sym c.if-ends_halt.ensures),
       omega arith,
       omega arith,
       omega arith,
