@@ -10,6 +10,6 @@ returns-then-text-place-lt2 c = sym (one_left c.args.text.now c.args.place (omeg
 pub returns : goal.returns
 returns c =
     c.pair.ensures
-    ∙ ap (λ high. paired high c.digit-value-2.result) c.digit-value.ensures.value
-    ∙ ap (λ low. paired (digit_of (get_or c.args.text.now c.args.place 0)) low) c.digit-value-2.ensures.value
+    ∙ ap (λ high. paired high c.digit_value-2.result) c.digit_value.ensures.value
+    ∙ ap (λ low. paired (digit_of (get_or c.args.text.now c.args.place 0)) low) c.digit_value-2.ensures.value
     ∙ sym (two_left c.args.text.now c.args.place (omega arith))

@@ -2,16 +2,16 @@ use Rattle.std.proofs.Common.{rules}
 use Rattle.panel.proofs.Texts.{end_back, end_front, gap_back, gap_front, one_passed}
 use Rattle.panel.proofs.words.gap_place.Goals as goal
 
-pub returns-then-is-gap : goal.returns-then-is-gap
-returns-then-is-gap c = record {
+pub returns-then-is_gap : goal.returns-then-is_gap
+returns-then-is_gap c = record {
   within = search rules;
-  front = gap_front c.args.gap c.args.text.now c.loop-place.place c.loop-place-test.true c.if-is-gap.ensures c.loop-place.invariant;
-  back = gap_back c.args.gap c.args.text.now c.loop-place.place c.loop-place-test.true c.if-is-gap.ensures c.loop-place.invariant;
+  front = gap_front c.args.gap c.args.text.now c.loop-place.place c.loop-place-test.true c.if-is_gap.ensures c.loop-place.invariant;
+  back = gap_back c.args.gap c.args.text.now c.loop-place.place c.loop-place-test.true c.if-is_gap.ensures c.loop-place.invariant;
 }
 
 pub loop-place-preserved : goal.loop-place-preserved
 loop-place-preserved c =
-    one_passed c.args.gap c.args.text.now c.loop-place.place c.loop-place-test.true c.if-is-gap.ensures c.loop-place.invariant
+    one_passed c.args.gap c.args.text.now c.loop-place.place c.loop-place-test.true c.if-is_gap.ensures c.loop-place.invariant
 
 pub returns : goal.returns
 returns c = record {
