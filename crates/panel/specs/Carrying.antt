@@ -26,7 +26,6 @@ use Rattle.panel.specs.declared.answers.Answer.TheVariants.{Ticked as TickedSo, 
 use Rattle.panel.specs.declared.holdings.Holding.{Holding}
 use Rattle.panel.specs.declared.commands.Command.{Command}
 use Rattle.panel.specs.declared.commands.Command.TheVariants.{Tick, Run, Step, Hold, Examine, Deposit, Release, Input, Registers, StepRegisters}
-use Rattle.panel.specs.declared.commands.Mistake.{Mistake}
 use Rattle.panel.specs.declared.commands.Mistake.TheVariants.{IsHeld, IsNotHeld}
 use Rattle.panel.specs.Desk.{Desk, with_key, with_machine, with_beside}
 

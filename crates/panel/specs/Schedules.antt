@@ -1,5 +1,5 @@
 -- The schedule of a run, by the bytes of its line.
-use Rattle.std.specs.Prelude.{◌≡◌, ℕ, ◌+◌, ◌*◌, ◌<◌, cond, List, [], ◌∷◌, Some, None, Ok, Err, Option, Result}
+use Rattle.std.specs.Prelude.{◌≡◌, ℕ, ◌+◌, ◌*◌, cond, List, [], ◌∷◌, Some, None, Ok, Err, Option, Result}
 use Rattle.panel.specs.declared.commands.Mistake.{Mistake}
 use Rattle.panel.specs.declared.commands.Mistake.TheVariants.{NoSuchCommand, BadNumber, TooManyWords, BadSchedule, IsHeld, IsNotHeld, NoMemory}
 use Rattle.panel.specs.declared.words.Gap.TheVariants.{Blank}

@@ -1,5 +1,6 @@
 // The line that says what the processor did, made from values.
 #![tactic(auto)]
+
 mod digits;
 mod fields;
 mod output;

@@ -1,6 +1,6 @@
 -- A run from power-up: READY high, INT at the first tick only with the jam byte 05H, until a halt ends, a tick is
 -- refused or the ticks are spent.
-use Rattle.std.specs.Prelude.{ℕ, zero, suc, Bool, true, false, cond, Ok, Err, Result}
+use Rattle.std.specs.Prelude.{ℕ, zero, suc, Bool, true, false, cond, Ok, Err}
 use Rattle.cpu.specs.Faults.{cause_number}
 use Rattle.states.specs.declared.ticks.Levels.{Levels}
 use Rattle.states.specs.Situation.{Situation}

@@ -1,13 +1,12 @@
 -- A run of steps from power-up: a jammed restart of cell 0, then own steps, until a halt ends, a step is refused, or 60,000
 -- table states are counted.
-use Rattle.std.specs.Prelude.{ℕ, zero, suc, ◌+◌, Bool, true, false, cond, Ok, Err, Result, nat_le}
+use Rattle.std.specs.Prelude.{ℕ, zero, suc, ◌+◌, Bool, true, false, cond, Ok, Err, nat_le}
 use Rattle.cpu.specs.Faults.{cause_number}
 use Rattle.cpu.specs.Place.{Place}
 use Rattle.stepper.specs.declared.feeds.Feed.{Feed}
 use Rattle.stepper.specs.declared.feeds.Feed.TheVariants.{Own, Jam}
-use Rattle.stepper.specs.declared.feeds.Stepped.{Stepped}
 use Rattle.stepper.specs.declared.feeds.Stepped.TheVariants.{Stopped, Done}
-use Rattle.stepper.specs.Steps.{Outcome, stepped}
+use Rattle.stepper.specs.Steps.{stepped}
 use Rattle.report.specs.declared.summary.Ending.{Ending}
 use Rattle.report.specs.declared.summary.Ending.TheVariants.{Halted, Spent, Refused}
 use Rattle.runner.specs.declared.tallies.Tally.{Tally}

@@ -1,11 +1,10 @@
 -- The two columns of a slip are what the history of its ticks comes to.
-use Rattle.std.proofs.Common.{◌≡◌, ℕ, ◌+◌, List, [], ◌∷◌, map, length, Option, sym, refl, ap, ◌∙◌, arith}
-use Rattle.cpu.specs.Processor.{View}
+use Rattle.std.proofs.Common.{◌≡◌, ℕ, ◌+◌, List, [], ◌∷◌, map, length, Option, refl, ap, ◌∙◌, arith}
 use Rattle.cpu.specs.Place.{Place}
 use Rattle.states.specs.declared.ticks.Levels.{Levels}
 use Rattle.states.specs.Sequencing.{states_in_hand}
 use Rattle.states.specs.Situation.{Situation}
-use Rattle.agreement.specs.Calls.{Event, run}
+use Rattle.agreement.specs.Calls.{run}
 use Rattle.agreement.specs.InstructionMachine.{program_of, fed}
 use Rattle.agreement.specs.Agreement.{endings, carried_out, sum, total, accepted}
 use Rattle.agreement.proofs.Theorem.{ticks_add_up, answers_agree}
@@ -13,7 +12,7 @@ use Rattle.runs.specs.declared.outcomes.RunFault.{RunFault}
 use Rattle.slips.specs.declared.columns.Slip.{Slip}
 use Rattle.slips.specs.Sheets.{Kept}
 use Rattle.slips.specs.SideBySide.{steps_of, SideBySide}
-use Rattle.slips.specs.Columns.{column_of, slip_from, account_of, calls_of, SlipOf}
+use Rattle.slips.specs.Columns.{column_of, slip_from, calls_of, SlipOf}
 
 -- Steps that were all carried out count what the instructions count that ended.
 steps_count : (ns : List ℕ) → (steps_of (map carried_out ns)).instructions ≡ length ns

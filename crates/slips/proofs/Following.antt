@@ -21,7 +21,7 @@ use Rattle.slips.specs.Counting.{one, counted, plus_step}
 use Rattle.slips.specs.Feeding.{place_fed, states_fed}
 use Rattle.slips.specs.Feeding as feeding
 use Rattle.slips.specs.Sheets.{Kept, noted_by, noted}
-use Rattle.slips.specs.SideBySide.{at_power_up, CountsOf, steps_of, fault_after, SideBySide}
+use Rattle.slips.specs.SideBySide.{at_power_up, CountsOf, steps_of, SideBySide}
 
 pub at_power_up_lem : {S : Type 0} (start : Place S) (s : Situation S) (k : Kept S) → s ≡ situation Start start → k ≡ at_power_up start →
     SideBySide start [] s k None

@@ -1,10 +1,10 @@
 -- A tape that ends well and a good schedule give the slip of the memory that holds the tape's words.
-use Rattle.std.proofs.Common.{◌≡◌, ℕ, List, ◌++◌, length, drop, replicate, Ok, Err, Result, sym, ap, ◌∙◌, subst, arith}
+use Rattle.std.proofs.Common.{◌≡◌, ℕ, List, ◌++◌, length, drop, replicate, Ok, Result, sym, ap, ◌∙◌, subst, arith}
 use lib.ListN.{length-replicate}
 use Rattle.tape.specs.Tape.{Ending, stopped, bad, full, Reads}
 use Rattle.tape.specs.Reading.{Reading, answered}
 use Rattle.tape.specs.declared.refusals.TapeRefusal.{TapeRefusal}
-use Rattle.runs.specs.Schedules.{Judgement, judged, levels_of}
+use Rattle.runs.specs.Schedules.{judged, levels_of}
 use Rattle.slips.specs.declared.columns.Slip.{Slip}
 use Rattle.slips.specs.Columns.{SlipOf}
 use Rattle.slips.specs.Slips.{powered_over, holding, Tells, Told}

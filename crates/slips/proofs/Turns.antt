@@ -1,5 +1,5 @@
 -- One turn: the ticks that are left extend the calls so far to those of the whole schedule.
-use Rattle.std.proofs.Common.{◌≡◌, ℕ, ◌+◌, ◌*◌, ◌/◌, ◌<◌, ◌≤◌, List, ◌∷◌, length, get_or, drop, Ok, Err, Result, sym, ap, ◌∙◌}
+use Rattle.std.proofs.Common.{◌≡◌, ℕ, ◌+◌, ◌*◌, ◌/◌, ◌<◌, ◌≤◌, List, ◌∷◌, length, get_or, drop, Ok, Err, sym, ap, ◌∙◌}
 use Rattle.cpu.specs.declared.faults.Fault.{Fault}
 use Rattle.states.specs.declared.ticks.Levels.{Levels}
 use Rattle.states.specs.declared.ticks.Ticked.{Ticked}

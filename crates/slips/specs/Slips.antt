@@ -4,9 +4,7 @@ use Rattle.bus.specs.Flat.{flat}
 use Rattle.bus.specs.Latch.{Latches, latch_rules, all_fitted, zeroed}
 use Rattle.cpu.specs.Place.{Place, powered_place}
 use Rattle.tape.specs.Tape.{Ending, stopped, bad, full, Reads}
-use Rattle.tape.specs.declared.refusals.TapeRefusal.{TapeRefusal}
 use Rattle.tape.specs.declared.refusals.TapeRefusal.TheVariants.{BadWord, BufferFull}
-use Rattle.runs.specs.declared.refusals.ScheduleRefusal.{ScheduleRefusal}
 use Rattle.runs.specs.Schedules.{judged, levels_of}
 use Rattle.slips.specs.declared.columns.Slip.{Slip}
 use Rattle.slips.specs.declared.refusals.SlipRefusal.{SlipRefusal}

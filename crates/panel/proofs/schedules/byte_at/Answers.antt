@@ -1,4 +1,4 @@
-use Rattle.std.proofs.Common.{◌+◌, get_or, sym, ap, ◌∙◌, arith}
+use Rattle.std.proofs.Common.{get_or, sym, ap, ◌∙◌, arith}
 use Rattle.panel.specs.Numbers.{digit_of}
 use Rattle.panel.specs.Schedules.{paired}
 use Rattle.panel.proofs.Pairs.{one_left, two_left}

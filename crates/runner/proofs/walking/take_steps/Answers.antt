@@ -1,4 +1,4 @@
-use Rattle.std.proofs.Common.{sym, ◌∙◌, arith}
+use Rattle.std.proofs.Common.{◌∙◌, arith}
 use Rattle.runner.proofs.StepTurns.{goes_on, halt_ends, found_stopped, refused, enough, spent}
 use Rattle.runner.proofs.walking.take_steps.Goals as goal
 

@@ -1,4 +1,4 @@
-use Rattle.std.proofs.Common.{◌≡◌, [], ◌∷◌, Ok, sym, ap, ◌∙◌, arith, rules}
+use Rattle.std.proofs.Common.{[], ◌∷◌, Ok, sym, ap, ◌∙◌, arith, rules}
 use Rattle.cpu.specs.Processor.{view_of}
 use Rattle.agreement.specs.Calls.{tick}
 use Rattle.runs.specs.Schedules.{levels_of}
