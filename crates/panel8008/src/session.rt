@@ -3,7 +3,8 @@ use panel::{Answer, Command, Key, Panel, is_blank, read_command, read_schedule};
 use std::io;
 use std::io::{BufRead, BufReader};
 
-// Carries out the commands of standard input, up to its end, and answers the key that is then in hand.
+// Carries out the commands of standard input, up to its end, and answers the key that is then in hand. A failed read or
+// write ends it early, and where there is no memory to read into, no command is carried out.
 pub fn converse(rt: &HostRuntime, panel: &mut Panel<FlatStore>, key: Key) -> (Key, io::Result<()>) {
     let mut input = match BufReader::new(rt.alloc(), rt.stdin()) {
         Ok(input) => input,
