@@ -3,7 +3,7 @@ use Rattle.std.proofs.Common.{◌≡◌, ℕ, ◌*◌, ◌/◌, ◌%◌, ◌<◌
 use lib.Bits.{bit_or}
 use Rattle.std.proofs.lemmas.Bool.{eqb-true, and_parts}
 use Rattle.isa.specs.Conditions.{bit, same}
-use Rattle.isa.specs.declared.instructions.Rotation.TheVariants.{LeftThroughCarry, RightThroughCarry}
+use Rattle.isa.specs.declared.instructions.Rotation.TheVariants.{LeftThroughCarry}
 use Rattle.isa.proofs.Every.{below}
 use Rattle.alu.specs.Rotations.{Turned, turned, turned_left, turned_right, turning}
 
@@ -39,9 +39,3 @@ left_nine true =
     agree _ (λ a. turning LeftThroughCarry a true) (below (λ n. equal (turned (bit_or (n * 2 % 256) 1) (leb 128 n)) (turning LeftThroughCarry n true)) 256 refl)
 left_nine false =
     agree _ (λ a. turning LeftThroughCarry a false) (below (λ n. equal (turned (bit_or (n * 2 % 256) 0) (leb 128 n)) (turning LeftThroughCarry n false)) 256 refl)
-
-pub right_nine : (c : Bool) (a : ℕ) → a < 256 → turned (bit_or (a / 2) (bit c * 128 % 256)) (eqb (a % 2) 1) ≡ turning RightThroughCarry a c
-right_nine true =
-    agree _ (λ a. turning RightThroughCarry a true) (below (λ n. equal (turned (bit_or (n / 2) 128) (eqb (n % 2) 1)) (turning RightThroughCarry n true)) 256 refl)
-right_nine false =
-    agree _ (λ a. turning RightThroughCarry a false) (below (λ n. equal (turned (bit_or (n / 2) 0) (eqb (n % 2) 1)) (turning RightThroughCarry n false)) 256 refl)

@@ -1,8 +1,8 @@
 ghost use Rattle.std.specs.Prelude.{◌≡◌, ◌+◌};
 ghost use Rattle.isa.specs.Conditions.{bit};
-ghost use Rattle.alu.specs.Arithmetic.{sum, difference, logical, combined, incremented, decremented};
+ghost use Rattle.alu.specs.Arithmetic.{sum, difference, combined, incremented, decremented};
 
-use crate::outcomes::{Outcome, flags_of};
+use crate::outcomes::Outcome;
 use isa::Group;
 
 // What a group makes of the accumulator and its operand: the accumulator and the flags after it. Results
@@ -16,12 +16,12 @@ pub fn combine(group: Group, a: u8, operand: u8, carry: bool) -> Outcome
         Group::AddCarry => add(a, operand, carry),
         Group::Subtract => subtract(a, operand, false),
         Group::SubtractBorrow => subtract(a, operand, carry),
-        Group::And => logic(a & operand),
-        Group::Xor => logic(a ^ operand),
-        Group::Or => logic(a | operand),
+        Group::And => Outcome::of(a & operand, false),
+        Group::Xor => Outcome::of(a ^ operand, false),
+        Group::Or => Outcome::of(a | operand, false),
         Group::Compare => Outcome {
             value: a,
-            flags: subtract(a, operand, false).flags,
+            ..subtract(a, operand, false)
         },
     }
 }
@@ -30,51 +30,26 @@ pub fn combine(group: Group, a: u8, operand: u8, carry: bool) -> Outcome
 pub fn increment(value: u8, carry: bool) -> Outcome
     ensures { result ≡ incremented value carry }
 {
-    let value = value.wrapping_add(1);
-    Outcome {
-        value,
-        flags: flags_of(carry, value),
-    }
+    Outcome::of(value.wrapping_add(1), carry)
 }
 
 // One less, mod 256, with the flags of the result and the carry as it was.
 pub fn decrement(value: u8, carry: bool) -> Outcome
     ensures { result ≡ decremented value carry }
 {
-    let value = value.wrapping_sub(1);
-    Outcome {
-        value,
-        flags: flags_of(carry, value),
-    }
+    Outcome::of(value.wrapping_sub(1), carry)
 }
 
 fn add(a: u8, b: u8, carry: bool) -> Outcome
     ensures { result ≡ sum (a + b + bit carry) }
 {
-    let value = a.wrapping_add(b).wrapping_add(carry as u8);
-    let over = a as u16 + b as u16 + carry as u16 > 255;
-    Outcome {
-        value,
-        flags: flags_of(over, value),
-    }
+    let over = u16::from(a) + u16::from(b) + u16::from(carry) > 255;
+    Outcome::of(a.wrapping_add(b).wrapping_add(u8::from(carry)), over)
 }
 
 fn subtract(a: u8, b: u8, borrow: bool) -> Outcome
     ensures { result ≡ difference a (b + bit borrow) }
 {
-    let value = a.wrapping_sub(b).wrapping_sub(borrow as u8);
-    let under = (a as u16) < b as u16 + borrow as u16;
-    Outcome {
-        value,
-        flags: flags_of(under, value),
-    }
-}
-
-fn logic(value: u8) -> Outcome
-    ensures { result ≡ logical value }
-{
-    Outcome {
-        value,
-        flags: flags_of(false, value),
-    }
+    let under = u16::from(a) < u16::from(b) + u16::from(borrow);
+    Outcome::of(a.wrapping_sub(b).wrapping_sub(u8::from(borrow)), under)
 }

@@ -1,29 +1,28 @@
 ghost use Rattle.std.specs.Prelude.{◌≡◌};
-ghost use Rattle.alu.specs.Outcomes.{even_ones, flags_of};
+ghost use Rattle.alu.specs.Outcomes.{outcome};
 
 use isa::Flags;
 
 // What a register takes, and the flags after it.
-#[derive(Clone, Copy)]
+#[derive(Clone, Copy, PartialEq, Eq, Debug)]
 pub struct Outcome {
     pub value: u8,
     pub flags: Flags,
 }
 
-// The flags that tell of a result, with the carry as given.
-pub(crate) fn flags_of(carry: bool, byte: u8) -> Flags
-    ensures { result ≡ flags_of carry byte }
-{
-    Flags {
-        carry,
-        zero: byte == 0,
-        sign: byte >= 128,
-        parity: has_even_parity(byte),
+impl Outcome {
+    // A result with the flags that tell of it, and the carry as given.
+    pub(crate) fn of(value: u8, carry: bool) -> Outcome
+        ensures { result ≡ outcome carry value }
+    {
+        Outcome {
+            value,
+            flags: Flags {
+                carry,
+                zero: value == 0,
+                sign: value >= 128,
+                parity: value.count_ones() % 2 == 0,
+            },
+        }
     }
-}
-
-fn has_even_parity(byte: u8) -> bool
-    ensures { result ≡ even_ones byte }
-{
-    byte.count_ones() % 2 == 0
 }

@@ -23,7 +23,7 @@ fn turn(rotation: Rotation, a: u8, carry: bool) -> (u8, bool)
     match rotation {
         Rotation::Left => (a.rotate_left(1), a >= 128),
         Rotation::Right => (a.rotate_right(1), a % 2 == 1),
-        Rotation::LeftThroughCarry => (a << 1 | carry as u8, a >= 128),
-        Rotation::RightThroughCarry => (a >> 1 | (carry as u8) << 7, a % 2 == 1),
+        Rotation::LeftThroughCarry => (a << 1 | u8::from(carry), a >= 128),
+        Rotation::RightThroughCarry => (a >> 1 | u8::from(carry) << 7, a % 2 == 1),
     }
 }

@@ -1,5 +1,7 @@
 -- The four flags, and the conditions on them.
-use Rattle.std.specs.Prelude.{ℕ, zero, suc, ◌+◌, ◌*◌, ◌%◌, Bool, true, false, not, nat_le}
+use Rattle.std.specs.Prelude.{ℕ, zero, suc, ◌+◌, ◌*◌, ◌%◌, Bool, true, false, not, cond, Ok, Err, Result, nat_le, nat_lt}
+use Rattle.isa.specs.declared.refusals.Refusal.{Refusal}
+use Rattle.isa.specs.declared.refusals.Refusal.TheVariants.{NoInstruction}
 use Rattle.isa.specs.declared.conditions.Flag.{Flag}
 use Rattle.isa.specs.declared.conditions.Flag.TheVariants.{Carry, Zero, Sign, Parity}
 use Rattle.isa.specs.declared.conditions.Flags.{Flags}
@@ -30,6 +32,13 @@ condition_code flag f = 4 * bit f + flag_code flag
 
 abbrev pub condition_of : ℕ → Condition
 condition_of fcc = When (flag_of (fcc % 4)) (nat_le 4 fcc)
+
+-- A code above 3 is none of a flag, and one above 7 none of a condition.
+abbrev pub flag_with_code : ℕ → Result Flag Refusal
+flag_with_code c = cond (nat_lt c 4) (Ok (flag_of c)) (Err NoInstruction)
+
+abbrev pub condition_with_code : ℕ → Result Condition Refusal
+condition_with_code fcc = cond (nat_lt fcc 8) (Ok (condition_of fcc)) (Err NoInstruction)
 
 -- What a flag holds.
 abbrev pub flag_in : Flags → Flag → Bool

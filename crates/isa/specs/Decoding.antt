@@ -1,5 +1,7 @@
 -- The instruction of a byte, by its bit fields.
-use Rattle.std.specs.Prelude.{ℕ, zero, suc, ◌/◌, ◌%◌, cond, Some, None, Option, ◌==◌, nat_lt}
+use Rattle.std.specs.Prelude.{ℕ, zero, suc, ◌/◌, ◌%◌, cond, Some, None, Option, Ok, Err, Result, ◌==◌, nat_lt}
+use Rattle.isa.specs.declared.refusals.Refusal.{Refusal}
+use Rattle.isa.specs.declared.refusals.Refusal.TheVariants.{NoInstruction}
 use Rattle.isa.specs.declared.conditions.Condition.TheVariants.{Always}
 use Rattle.isa.specs.declared.instructions.Group.{Group}
 use Rattle.isa.specs.declared.instructions.Group.TheVariants.{Add, AddCarry, Subtract, SubtractBorrow, And, Xor, Or, Compare}
@@ -30,6 +32,16 @@ rotation_of zero = Left
 rotation_of (suc zero) = Right
 rotation_of (suc (suc zero)) = LeftThroughCarry
 rotation_of (suc (suc (suc n))) = RightThroughCarry
+
+-- A code above 7 is none of a group or an operand, and one above 3 none of a rotation.
+abbrev pub group_with_code : ℕ → Result Group Refusal
+group_with_code p = cond (nat_lt p 8) (Ok (group_of p)) (Err NoInstruction)
+
+abbrev pub operand_with_code : ℕ → Result Operand Refusal
+operand_with_code s = cond (nat_lt s 8) (Ok (operand_of s)) (Err NoInstruction)
+
+abbrev pub rotation_with_code : ℕ → Result Rotation Refusal
+rotation_with_code r = cond (nat_lt r 4) (Ok (rotation_of r)) (Err NoInstruction)
 
 abbrev pub port_of : ℕ → Instruction
 port_of m = cond (nat_lt m 8) (Input m) (Output m)

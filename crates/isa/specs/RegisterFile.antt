@@ -1,5 +1,7 @@
 -- The seven registers: their codes, what they hold, and the address of M.
-use Rattle.std.specs.Prelude.{ℕ, zero, suc, ◌+◌, ◌*◌, ◌%◌}
+use Rattle.std.specs.Prelude.{ℕ, zero, suc, ◌+◌, ◌*◌, ◌%◌, cond, Ok, Err, Result, nat_lt}
+use Rattle.isa.specs.declared.refusals.Refusal.{Refusal}
+use Rattle.isa.specs.declared.refusals.Refusal.TheVariants.{NoInstruction}
 use Rattle.isa.specs.declared.register_file.Register.{Register}
 use Rattle.isa.specs.declared.register_file.Register.TheVariants.{A, B, C, D, E, H, L}
 use Rattle.isa.specs.declared.register_file.Registers.{Registers}
@@ -22,6 +24,10 @@ register_of (suc (suc (suc zero))) = D
 register_of (suc (suc (suc (suc zero)))) = E
 register_of (suc (suc (suc (suc (suc zero))))) = H
 register_of (suc (suc (suc (suc (suc (suc n)))))) = L
+
+-- A code above 6 is none of a register.
+abbrev pub register_with_code : ℕ → Result Register Refusal
+register_with_code c = cond (nat_lt c 7) (Ok (register_of c)) (Err NoInstruction)
 
 -- What a register holds.
 abbrev pub held : Registers → Register → ℕ

@@ -1,8 +1,10 @@
 ghost use Rattle.std.specs.Prelude.{◌≡◌};
-ghost use Rattle.isa.specs.Conditions.{holds};
+ghost use Rattle.isa.specs.Conditions.{flag_with_code, condition_with_code, flag_in, holds};
+
+use crate::refusals::Refusal;
 
 // The four flags, in the order of their codes 0 to 3.
-#[derive(Clone, Copy)]
+#[derive(Clone, Copy, PartialEq, Eq, Debug)]
 pub enum Flag {
     Carry,
     Zero,
@@ -11,7 +13,7 @@ pub enum Flag {
 }
 
 // What the four flags hold.
-#[derive(Clone, Copy)]
+#[derive(Clone, Copy, PartialEq, Eq, Default, Debug)]
 pub struct Flags {
     pub carry: bool,
     pub zero: bool,
@@ -20,10 +22,40 @@ pub struct Flags {
 }
 
 // What a jump, a call or a return waits for: nothing, or that a flag has a value.
-#[derive(Clone, Copy)]
+#[derive(Clone, Copy, PartialEq, Eq, Debug)]
 pub enum Condition {
     Always,
     When(Flag, bool),
+}
+
+// The flag with this code. A code above 3 is refused.
+impl TryFrom<u8> for Flag {
+    type Error = Refusal;
+
+    ghost try_from_gives = { λ code r. r ≡ flag_with_code code };
+
+    fn try_from(code: u8) -> Result<Self, Refusal> {
+        match code {
+            0 => Ok(Flag::Carry),
+            1 => Ok(Flag::Zero),
+            2 => Ok(Flag::Sign),
+            3 => Ok(Flag::Parity),
+            _ => Err(Refusal::NoInstruction),
+        }
+    }
+}
+
+// The condition on a flag with these bits fcc. A number above 7 is refused.
+impl TryFrom<u8> for Condition {
+    type Error = Refusal;
+
+    ghost try_from_gives = { λ code r. r ≡ condition_with_code code };
+
+    fn try_from(code: u8) -> Result<Self, Refusal> {
+        let value = code >= 4;
+        let flag = Flag::try_from(if value { code - 4 } else { code })?;
+        Ok(Condition::When(flag, value))
+    }
 }
 
 impl Flags {
@@ -33,10 +65,19 @@ impl Flags {
     {
         match condition {
             Condition::Always => true,
-            Condition::When(Flag::Carry, value) => self.carry == value,
-            Condition::When(Flag::Zero, value) => self.zero == value,
-            Condition::When(Flag::Sign, value) => self.sign == value,
-            Condition::When(Flag::Parity, value) => self.parity == value,
+            Condition::When(flag, value) => self.get(flag) == value,
+        }
+    }
+
+    // What the flag holds.
+    fn get(&self, flag: Flag) -> bool
+        ensures { result ≡ flag_in self.now flag }
+    {
+        match flag {
+            Flag::Carry => self.carry,
+            Flag::Zero => self.zero,
+            Flag::Sign => self.sign,
+            Flag::Parity => self.parity,
         }
     }
 }

@@ -1,21 +1,21 @@
 ghost use Rattle.std.specs.Prelude.{◌≡◌, ◌<◌, ◌≤◌, Bool};
-ghost use Rattle.isa.specs.Cycles.{cycle_number, taken_under, transfer_in, kind_in, states_in, table_states_of, MovesIfItHasStates};
+ghost use Rattle.isa.specs.Cycles.{cycle_number, taken_under, transfer_in, kind_of, kind_in, states_in, table_states_of, MovesIfItHasStates};
 
 use crate::conditions::Flags;
 use crate::instructions::{Instruction, Operand};
 use crate::register_file::Register;
 
 // A memory cycle of an instruction. Each has at most one transfer.
-#[derive(Clone, Copy)]
+#[derive(Clone, Copy, PartialEq, Eq, Debug)]
 pub enum Cycle {
-    First,
-    Second,
-    Third,
+    First = 1,
+    Second = 2,
+    Third = 3,
 }
 
 // What a cycle is for, by the names that the processor puts out: PCI reads the first byte of an
 // instruction, PCR any other byte, PCW writes, PCC goes to a port.
-#[derive(Clone, Copy)]
+#[derive(Clone, Copy, PartialEq, Eq, Debug)]
 pub enum CycleKind {
     Pci,
     Pcr,
@@ -24,7 +24,7 @@ pub enum CycleKind {
 }
 
 // The one transfer of a cycle.
-#[derive(Clone, Copy)]
+#[derive(Clone, Copy, PartialEq, Eq, Debug)]
 pub enum Transfer {
     // A byte of the instruction is read at the program counter.
     Fetch,
@@ -45,10 +45,19 @@ impl Cycle {
     pub fn number(self) -> u8
         ensures { result ≡ cycle_number self }
     {
+        self as u8
+    }
+}
+
+impl Transfer {
+    // The kind of a cycle, other than the first, that has this transfer.
+    fn kind(self) -> CycleKind
+        ensures { result ≡ kind_of self }
+    {
         match self {
-            Cycle::First => 1,
-            Cycle::Second => 2,
-            Cycle::Third => 3,
+            Transfer::Fetch | Transfer::Read => CycleKind::Pcr,
+            Transfer::WriteRegister(_) | Transfer::WriteImmediate => CycleKind::Pcw,
+            Transfer::Input(_) | Transfer::Output(_) => CycleKind::Pcc,
         }
     }
 }
@@ -113,14 +122,9 @@ impl Instruction {
     pub fn kind(self, cycle: Cycle) -> Option<CycleKind>
         ensures { result ≡ kind_in self cycle }
     {
-        match (cycle, self.transfer(cycle)) {
-            (Cycle::First, _) => Some(CycleKind::Pci),
-            (_, Some(Transfer::Fetch | Transfer::Read)) => Some(CycleKind::Pcr),
-            (_, Some(Transfer::WriteRegister(_) | Transfer::WriteImmediate)) => Some(
-                CycleKind::Pcw,
-            ),
-            (_, Some(Transfer::Input(_) | Transfer::Output(_))) => Some(CycleKind::Pcc),
-            (_, None) => None,
+        match cycle {
+            Cycle::First => Some(CycleKind::Pci),
+            _ => self.transfer(cycle).map(Transfer::kind),
         }
     }
 

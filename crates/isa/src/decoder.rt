@@ -1,12 +1,11 @@
-ghost use Rattle.std.specs.Prelude.{◌≡◌, ◌<◌};
-ghost use Rattle.isa.specs.RegisterFile.{register_of};
-ghost use Rattle.isa.specs.Conditions.{condition_of};
-ghost use Rattle.isa.specs.Decoding.{group_of, operand_of, rotation_of, by_fields, quarter0, quarter1, quarter3, decoded};
+ghost use Rattle.std.specs.Prelude.{◌≡◌, ◌/◌, ◌%◌, ◌<◌, Some};
+ghost use Rattle.std.specs.Result.{result_ok};
+ghost use Rattle.isa.specs.Decoding.{by_fields, quarter0, quarter1, quarter3, decoded};
 ghost use Rattle.isa.specs.Laws.{InTable, OnlyOne, EncodesBack};
 
-use crate::conditions::{Condition, Flag};
-use crate::instructions::{Group, Instruction, Operand, Rotation};
-use crate::register_file::Register;
+use crate::conditions::Condition;
+use crate::instructions::{Instruction, Operand};
+use crate::refusals::Refusal;
 
 // The instruction that a byte stands for, and none for the six bytes that the instruction table lacks.
 // No other instruction has that byte for a code, and encoding it gives the byte with its free bits at zero.
@@ -17,7 +16,7 @@ pub fn decode(code: u8) -> Option<Instruction>
     ensures encodes_back { EncodesBack code result }
 {
     obey_table(code);
-    by_fields(code / 64, code / 2 % 32, code / 8 % 8, code % 8)
+    Fields::from(code).instruction().ok()
 }
 
 // The proof that decoding keeps to the instruction table at this byte. It does nothing.
@@ -27,134 +26,84 @@ fn obey_table(code: u8)
     ensures encodes_back { EncodesBack code (decoded code) }
 {}
 
-// The byte hh mmm lll, whose bits 5 to 1 are the port.
-fn by_fields(high: u8, port: u8, middle: u8, low: u8) -> Option<Instruction>
-    requires { (high < 4) × ((middle < 8) × (low < 8)) }
-    ensures { result ≡ by_fields high port middle low }
-{
-    match high {
-        0 => in_quarter_0(middle, low),
-        1 => Some(in_quarter_1(port, middle, low)),
-        2 => Some(Instruction::Arithmetic(group(middle), operand(low))),
-        _ => Some(in_quarter_3(middle, low)),
+// The bit fields hh mmm lll of a byte, with the port, which is bits 5 to 1.
+#[derive(Clone, Copy)]
+struct Fields {
+    high: u8,
+    port: u8,
+    middle: u8,
+    low: u8,
+    ghost high_bits: { high < 4 },
+    ghost middle_bits: { middle < 8 },
+    ghost low_bits: { low < 8 },
+}
+
+impl From<u8> for Fields {
+    ghost from_gives = { λ code f. (f.high ≡ code / 64) × ((f.port ≡ code / 2 % 32) × ((f.middle ≡ code / 8 % 8) × (f.low ≡ code % 8))) };
+
+    fn from(code: u8) -> Self {
+        Fields {
+            high: code / 64,
+            port: code / 2 % 32,
+            middle: code / 8 % 8,
+            low: code % 8,
+        }
     }
 }
 
-fn in_quarter_0(middle: u8, low: u8) -> Option<Instruction>
-    requires { (middle < 8) × (low < 8) }
-    ensures { result ≡ quarter0 middle low }
-{
-    match (middle, low) {
-        (0, 0 | 1) => Some(Instruction::Halt),
-        (7, 0 | 1) => None,
-        (d, 0) => Some(Instruction::Increment(register(d))),
-        (d, 1) => Some(Instruction::Decrement(register(d))),
-        (r, 2) => if r < 4 {
-            Some(Instruction::Rotate(rotation(r)))
-        } else {
-            None
-        },
-        (c, 3) => Some(Instruction::Return(condition(c))),
-        (p, 4) => Some(Instruction::Arithmetic(group(p), Operand::Immediate)),
-        (a, 5) => Some(Instruction::Restart(a)),
-        (7, 6) => Some(Instruction::StoreImmediate),
-        (d, 6) => Some(Instruction::LoadImmediate(register(d))),
-        _ => Some(Instruction::Return(Condition::Always)),
+impl Fields {
+    fn instruction(self) -> Result<Instruction, Refusal>
+        ensures { result_ok result ≡ by_fields self.high self.port self.middle self.low }
+    {
+        match self.high {
+            0 => self.in_quarter_0(),
+            1 => self.in_quarter_1(),
+            2 => Ok(Instruction::Arithmetic(self.middle.try_into()?, self.low.try_into()?)),
+            _ => self.in_quarter_3(),
+        }
     }
-}
 
-fn in_quarter_1(port: u8, middle: u8, low: u8) -> Instruction
-    requires { (middle < 8) × (low < 8) }
-    ensures { result ≡ quarter1 port middle low }
-{
-    match low {
-        0 => Instruction::Jump(condition(middle)),
-        2 => Instruction::Call(condition(middle)),
-        4 => Instruction::Jump(Condition::Always),
-        6 => Instruction::Call(Condition::Always),
-        _ => if port < 8 {
-            Instruction::Input(port)
-        } else {
-            Instruction::Output(port)
-        },
+    fn in_quarter_0(self) -> Result<Instruction, Refusal>
+        ensures { result_ok result ≡ quarter0 self.middle self.low }
+    {
+        Ok(match (self.middle, self.low) {
+            (0, 0 | 1) => Instruction::Halt,
+            (d, 0) => Instruction::Increment(d.try_into()?),
+            (d, 1) => Instruction::Decrement(d.try_into()?),
+            (r, 2) => Instruction::Rotate(r.try_into()?),
+            (c, 3) => Instruction::Return(c.try_into()?),
+            (p, 4) => Instruction::Arithmetic(p.try_into()?, Operand::Immediate),
+            (a, 5) => Instruction::Restart(a),
+            (7, 6) => Instruction::StoreImmediate,
+            (d, 6) => Instruction::LoadImmediate(d.try_into()?),
+            _ => Instruction::Return(Condition::Always),
+        })
     }
-}
 
-fn in_quarter_3(middle: u8, low: u8) -> Instruction
-    requires { (middle < 8) × (low < 8) }
-    ensures { result ≡ quarter3 middle low }
-{
-    match (middle, low) {
-        (7, 7) => Instruction::Halt,
-        (d, 7) => Instruction::LoadMemory(register(d)),
-        (7, s) => Instruction::StoreMemory(register(s)),
-        (d, s) => Instruction::Load(register(d), register(s)),
+    fn in_quarter_1(self) -> Result<Instruction, Refusal>
+        ensures { result_ok result ≡ Some (quarter1 self.port self.middle self.low) }
+    {
+        Ok(match self.low {
+            0 => Instruction::Jump(self.middle.try_into()?),
+            2 => Instruction::Call(self.middle.try_into()?),
+            4 => Instruction::Jump(Condition::Always),
+            6 => Instruction::Call(Condition::Always),
+            _ => if self.port < 8 {
+                Instruction::Input(self.port)
+            } else {
+                Instruction::Output(self.port)
+            },
+        })
     }
-}
 
-fn register(code: u8) -> Register
-    requires { code < 7 }
-    ensures { result ≡ register_of code }
-{
-    match code {
-        0 => Register::A,
-        1 => Register::B,
-        2 => Register::C,
-        3 => Register::D,
-        4 => Register::E,
-        5 => Register::H,
-        _ => Register::L,
+    fn in_quarter_3(self) -> Result<Instruction, Refusal>
+        ensures { result_ok result ≡ Some (quarter3 self.middle self.low) }
+    {
+        Ok(match (self.middle, self.low) {
+            (7, 7) => Instruction::Halt,
+            (d, 7) => Instruction::LoadMemory(d.try_into()?),
+            (7, s) => Instruction::StoreMemory(s.try_into()?),
+            (d, s) => Instruction::Load(d.try_into()?, s.try_into()?),
+        })
     }
-}
-
-fn group(code: u8) -> Group
-    requires { code < 8 }
-    ensures { result ≡ group_of code }
-{
-    match code {
-        0 => Group::Add,
-        1 => Group::AddCarry,
-        2 => Group::Subtract,
-        3 => Group::SubtractBorrow,
-        4 => Group::And,
-        5 => Group::Xor,
-        6 => Group::Or,
-        _ => Group::Compare,
-    }
-}
-
-fn operand(code: u8) -> Operand
-    requires { code < 8 }
-    ensures { result ≡ operand_of code }
-{
-    if code == 7 {
-        Operand::Memory
-    } else {
-        Operand::Register(register(code))
-    }
-}
-
-fn rotation(code: u8) -> Rotation
-    requires { code < 4 }
-    ensures { result ≡ rotation_of code }
-{
-    match code {
-        0 => Rotation::Left,
-        1 => Rotation::Right,
-        2 => Rotation::LeftThroughCarry,
-        _ => Rotation::RightThroughCarry,
-    }
-}
-
-fn condition(code: u8) -> Condition
-    requires { code < 8 }
-    ensures { result ≡ condition_of code }
-{
-    let flag = match code % 4 {
-        0 => Flag::Carry,
-        1 => Flag::Zero,
-        2 => Flag::Sign,
-        _ => Flag::Parity,
-    };
-    Condition::When(flag, code >= 4)
 }

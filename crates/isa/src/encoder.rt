@@ -27,39 +27,29 @@ fn obey_table(instruction: Instruction)
 fn plain_code(instruction: Instruction) -> Result<u8, Refusal>
     ensures { result ≡ encoded instruction }
 {
-    match instruction {
-        Instruction::Load(d, s) => Ok(code(3, d as u8, s as u8)),
-        Instruction::LoadMemory(d) => Ok(code(3, d as u8, 7)),
-        Instruction::StoreMemory(s) => Ok(code(3, 7, s as u8)),
-        Instruction::LoadImmediate(d) => Ok(code(0, d as u8, 6)),
-        Instruction::StoreImmediate => Ok(code(0, 7, 6)),
-        Instruction::Increment(Register::A) | Instruction::Decrement(Register::A) => Err(
+    Ok(match instruction {
+        Instruction::Load(d, s) => code(3, d as u8, s as u8),
+        Instruction::LoadMemory(d) => code(3, d as u8, 7),
+        Instruction::StoreMemory(s) => code(3, 7, s as u8),
+        Instruction::LoadImmediate(d) => code(0, d as u8, 6),
+        Instruction::StoreImmediate => code(0, 7, 6),
+        Instruction::Increment(Register::A) | Instruction::Decrement(Register::A) => return Err(
             Refusal::NoInstruction,
         ),
-        Instruction::Increment(d) => Ok(code(0, d as u8, 0)),
-        Instruction::Decrement(d) => Ok(code(0, d as u8, 1)),
-        Instruction::Arithmetic(group, operand) => Ok(arithmetic_code(group, operand)),
-        Instruction::Rotate(rotation) => Ok(code(0, rotation as u8, 2)),
-        Instruction::Jump(condition) => Ok(conditional_code(1, condition, 4, 0)),
-        Instruction::Call(condition) => Ok(conditional_code(1, condition, 6, 2)),
-        Instruction::Return(condition) => Ok(conditional_code(0, condition, 7, 3)),
-        Instruction::Restart(a) => if a < 8 {
-            Ok(code(0, a, 5))
-        } else {
-            Err(Refusal::NoInstruction)
-        },
-        Instruction::Input(m) => if m < 8 {
-            Ok(64 + 2 * m + 1)
-        } else {
-            Err(Refusal::NoInstruction)
-        },
-        Instruction::Output(m) => if m >= 8 && m < 32 {
-            Ok(64 + 2 * m + 1)
-        } else {
-            Err(Refusal::NoInstruction)
-        },
-        Instruction::Halt => Ok(0),
-    }
+        Instruction::Increment(d) => code(0, d as u8, 0),
+        Instruction::Decrement(d) => code(0, d as u8, 1),
+        Instruction::Arithmetic(group, operand) => arithmetic_code(group, operand),
+        Instruction::Rotate(rotation) => code(0, rotation as u8, 2),
+        Instruction::Jump(condition) => conditional_code(1, condition, 4, 0),
+        Instruction::Call(condition) => conditional_code(1, condition, 6, 2),
+        Instruction::Return(condition) => conditional_code(0, condition, 7, 3),
+        Instruction::Restart(a @ 0..=7) => code(0, a, 5),
+        Instruction::Input(m @ 0..=7) | Instruction::Output(m @ 8..=31) => 64 + 2 * m + 1,
+        Instruction::Restart(_) | Instruction::Input(_) | Instruction::Output(_) => return Err(
+            Refusal::NoInstruction,
+        ),
+        Instruction::Halt => 0,
+    })
 }
 
 // The byte hh mmm lll.
@@ -77,8 +67,7 @@ fn conditional_code(high: u8, condition: Condition, always: u8, when: u8) -> u8
 {
     match condition {
         Condition::Always => code(high, 0, always),
-        Condition::When(flag, true) => code(high, 4 + flag as u8, when),
-        Condition::When(flag, false) => code(high, flag as u8, when),
+        Condition::When(flag, value) => code(high, 4 * u8::from(value) + flag as u8, when),
     }
 }
 

@@ -1,10 +1,10 @@
 ghost use Rattle.std.specs.Prelude.{◌≡◌};
 ghost use Rattle.isa.specs.Refusals.{refusal_number};
 
-// Why an instruction is not encoded: the instruction table lacks it.
-#[derive(Clone, Copy)]
+// Why an instruction is not encoded, or a code not decoded: the instruction table lacks it.
+#[derive(Clone, Copy, PartialEq, Eq, Debug)]
 pub enum Refusal {
-    NoInstruction,
+    NoInstruction = 3,
 }
 
 impl Refusal {
@@ -12,8 +12,6 @@ impl Refusal {
     pub fn number(self) -> u8
         ensures { result ≡ refusal_number self }
     {
-        match self {
-            Refusal::NoInstruction => 3,
-        }
+        self as u8
     }
 }

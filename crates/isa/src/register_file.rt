@@ -1,8 +1,10 @@
 ghost use Rattle.std.specs.Prelude.{◌≡◌};
-ghost use Rattle.isa.specs.RegisterFile.{held, replaced, memory_address};
+ghost use Rattle.isa.specs.RegisterFile.{register_with_code, held, replaced, memory_address};
+
+use crate::refusals::Refusal;
 
 // The seven registers, in the order of their codes 0 to 6.
-#[derive(Clone, Copy)]
+#[derive(Clone, Copy, PartialEq, Eq, Debug)]
 pub enum Register {
     A,
     B,
@@ -13,8 +15,28 @@ pub enum Register {
     L,
 }
 
+// The register with this code. A code above 6 is refused.
+impl TryFrom<u8> for Register {
+    type Error = Refusal;
+
+    ghost try_from_gives = { λ code r. r ≡ register_with_code code };
+
+    fn try_from(code: u8) -> Result<Self, Refusal> {
+        match code {
+            0 => Ok(Register::A),
+            1 => Ok(Register::B),
+            2 => Ok(Register::C),
+            3 => Ok(Register::D),
+            4 => Ok(Register::E),
+            5 => Ok(Register::H),
+            6 => Ok(Register::L),
+            _ => Err(Refusal::NoInstruction),
+        }
+    }
+}
+
 // What the seven registers hold.
-#[derive(Clone, Copy)]
+#[derive(Clone, Copy, PartialEq, Eq, Default, Debug)]
 pub struct Registers {
     pub a: u8,
     pub b: u8,
@@ -60,6 +82,6 @@ impl Registers {
     pub fn memory_address(&self) -> u16
         ensures { result ≡ memory_address self.now }
     {
-        u16::from(self.h % 64) * 256 + u16::from(self.l)
+        u16::from_be_bytes([self.h % 64, self.l])
     }
 }

@@ -1,5 +1,5 @@
 use Rattle.std.proofs.Common.{rules}
-use Rattle.alu.proofs.Turns.{left, right, left_nine, right_nine}
+use Rattle.alu.proofs.Turns.{left, right, left_nine}
 use Rattle.alu.proofs.rotations.turn.Goals as goal
 
 pub returns-in-Left : goal.returns-in-Left
@@ -10,6 +10,3 @@ returns-in-Right c = search (rules, right)
 
 pub returns-in-LeftThroughCarry : goal.returns-in-LeftThroughCarry
 returns-in-LeftThroughCarry c = search (rules, left_nine)
-
-pub returns-in-RightThroughCarry : goal.returns-in-RightThroughCarry
-returns-in-RightThroughCarry c = search (rules, right_nine)
