@@ -1,4 +1,5 @@
 pub mod Endings
-pub mod Progress
 pub mod Spelling
 pub mod Unambiguous
+pub mod Blanks
+pub mod Progress

@@ -1,7 +1,7 @@
 -- The letters of a word, one after another.
-use Rattle.std.proofs.Common.{◌≡◌, ℕ, ◌+◌, ◌*◌, ◌^◌, ◌<◌, ◌≤◌, Bool, true, false, List, [], ◌∷◌, ◌++◌, map, length, drop, sym, refl, ap, ◌∙◌, subst, append_assoc, add_assoc, pow-suc, arith, lit<, pow_mono, pow-add}
+use Rattle.std.proofs.Common.{◌≡◌, ℕ, suc, ◌+◌, ◌*◌, ◌^◌, ◌<◌, ◌≤◌, Bool, true, false, List, [], ◌∷◌, ◌++◌, map, length, drop, sym, refl, ap, ◌∙◌, append_assoc, pow-suc, arith, lit<, pow_mono, pow-add}
 use Rattle.std.proofs.lemmas.List.{length_push, map_push}
-use Rattle.tape.specs.Tape.{letter, bit, value, Begins, reads_word, bad_letter, bad_end}
+use Rattle.tape.specs.Tape.{letter, bit, value, Begins, Reads, bad, reads_word, bad_letter, bad_end}
 use Rattle.tape.specs.Places.{Stands, Letter, NoLetter}
 use Rattle.tape.specs.Words.{WordFrom, BrokenFrom}
 use Rattle.tape.specs.declared.refusals.TapeRefusal.TheVariants.{BadWord}
@@ -18,54 +18,55 @@ value_fits [] = lit< tt
 value_fits (true ∷ bits) = omega (arith, value_fits bits, pow-suc 2 (length bits))
 value_fits (false ∷ bits) = omega (arith, value_fits bits, pow-suc 2 (length bits))
 
--- k letters stand from the place on, and their bits make v
-pub record Spelled (tape : List ℕ) (from k v : ℕ) : Type 0 where
+-- k letters stand from the one place up to the other, and their bits make v
+pub record Spelled (tape : List ℕ) (from at k v : ℕ) : Type 0 where
   pub bits : List Bool
   pub count : length bits ≡ k
   pub worth : value bits ≡ v
-  pub within : from + k ≤ length tape
-  pub stand : drop from tape ≡ map letter bits ++ drop (from + k) tape
+  pub place : at ≡ from + k
+  pub stand : drop from tape ≡ map letter bits ++ drop at tape
 
-module _ {tape : List ℕ} {from k v : ℕ} (so_far : Spelled tape from k v) where
+module _ {tape : List ℕ} {from at k v : ℕ} (so_far : Spelled tape from at k v) where
   -- there is room for one more bit in a byte
   pub spelled_fits : k < 8 → v < 128
   spelled_fits few =
       let at_most : length so_far.bits ≤ 7 = omega (arith, so_far.count) in
       omega (arith, so_far.worth, value_fits so_far.bits, pow_mono at_most)
 
-  pub spelled_more : (w : ℕ) → Letter tape (from + k) v w → Spelled tape from (k + 1) w
+  pub spelled_more : (w : ℕ) → Letter tape at v w → Spelled tape from (at + 1) (k + 1) w
   spelled_more w l =
       record {
         bits = so_far.bits ++ l.which ∷ [];
         count = length_push so_far.bits l.which ∙ ap (λ n. n + 1) so_far.count;
         worth = omega (arith, value_push so_far.bits l.which, so_far.worth, l.worth);
-        within = omega (arith, l.stands.within);
-        stand = rw (map_push, append_assoc, ← add_assoc) (so_far.stand ∙ ap (λ rest. map letter so_far.bits ++ rest) l.stands.here);
+        place = omega (arith, so_far.place);
+        stand = rw (map_push, append_assoc) (so_far.stand ∙ ap (λ rest. map letter so_far.bits ++ rest) l.stands.here);
+      }
+
+  -- the word breaks off here
+  broken : ((room : ℕ) → Reads (suc room) (66 ∷ (map letter so_far.bits ++ drop at tape)) [] (bad (1 + length so_far.bits))) → BrokenFrom tape from (BadWord at)
+  broken r =
+      record {
+        after = length so_far.bits;
+        is = ap BadWord (so_far.place ∙ ap (λ n. from + n) (sym so_far.count));
+        reads = rw so_far.stand (r _);
       }
 
   -- neither N nor P comes next, though fewer than eight letters stand
-  pub letter_lacks : k < 8 → NoLetter tape (from + k) → BrokenFrom tape from (BadWord (from + k))
-  letter_lacks few none =
-      record {
-        after = length so_far.bits;
-        is = ap (λ n. BadWord (from + n)) (sym so_far.count);
-        reads = rw so_far.stand (bad_letter so_far.bits _ (omega (arith, so_far.count)) none.no-N none.no-P);
-      }
-
-  whole : k ≡ 8 → Spelled tape from 8 v
-  whole eight = subst (λ n. Spelled tape from n v) eight so_far
+  pub letter_lacks : k < 8 → NoLetter tape at → BrokenFrom tape from (BadWord at)
+  letter_lacks few none = broken (λ room. bad_letter so_far.bits _ (omega (arith, so_far.count)) none.no-N none.no-P)
 
   -- no F comes after the eighth letter
-  pub end_lacks : k ≡ 8 → (Begins 70 (drop (from + 8) tape) → ⊥) → BrokenFrom tape from (BadWord (from + 8))
+  pub end_lacks : k ≡ 8 → (Begins 70 (drop at tape) → ⊥) → BrokenFrom tape from (BadWord at)
   end_lacks eight none =
-      let w = whole eight in
-      record { after = 8; is = refl; reads = rw w.stand (bad_end w.bits _ w.count none) }
+      let e = so_far.count ∙ eight in
+      broken (λ room. rw e (bad_end so_far.bits _ e none))
 
-  pub word_ends : k ≡ 8 → Stands tape (from + 8) 70 → WordFrom tape from v
+  pub word_ends : k ≡ 8 → Stands tape at 70 → WordFrom tape from v
   word_ends eight f =
-      let w = whole eight in
+      let after : at + 1 ≡ from + 9 = omega (arith, so_far.place) in
       record {
         within = omega (arith, f.within);
         reads =
-            λ more. rw (← w.worth, w.stand, f.here, add_assoc, ← append_assoc (map letter w.bits) (70 ∷ []) (drop (from + 9) tape)) (reads_word w.bits w.count more);
+            λ more. rw (← so_far.worth, so_far.stand, f.here, after, ← append_assoc (map letter so_far.bits) (70 ∷ []) (drop (from + 9) tape)) (reads_word so_far.bits (so_far.count ∙ eight) more);
       }

@@ -1,8 +1,7 @@
 -- What a tape has at a place.
-use Rattle.std.specs.Prelude.{◌≡◌, ℕ, ◌+◌, ◌*◌, ◌<◌, Bool, ◌≢◌, ◌⊎◌, List, [], ◌∷◌, length, drop}
+use Rattle.std.specs.Prelude.{◌≡◌, ℕ, ◌+◌, ◌*◌, ◌<◌, ◌==◌, ◌||◌, not, Bool, true, false, List, ◌∷◌, length, drop}
+use Rattle.std.specs.List.{prefix_len}
 use Rattle.tape.specs.Tape.{letter, bit, Begins}
-use Rattle.tape.specs.declared.reader.Mark.{Mark}
-use Rattle.tape.specs.declared.reader.Mark.TheVariants.{Begin, End, Blank}
 
 -- x stands at the place
 pub record Stands (tape : List ℕ) (place x : ℕ) : Type 0 where
@@ -20,15 +19,16 @@ pub record NoLetter (tape : List ℕ) (place : ℕ) : Type 0 where
   pub no-N : Begins 78 (drop place tape) → ⊥
   pub no-P : Begins 80 (drop place tape) → ⊥
 
--- a byte that is skipped outside a word stands at the place
-pub record Skipped (tape : List ℕ) (place : ℕ) : Type 0 where
-  pub byte : ℕ
-  pub stands : Stands tape place byte
-  pub no-B : byte ≢ 66
-  pub no_dollar : byte ≢ 36
+-- a byte that is skipped outside a word: neither B nor $
+abbrev pub is_blank : ℕ → Bool
+is_blank byte = not (byte == 66 || byte == 36)
 
--- what a mark says of the place
-abbrev pub Marked : List ℕ → ℕ → Mark → Type 0
-Marked tape place Begin = Stands tape place 66
-Marked tape place End = (drop place tape ≡ []) ⊎ Stands tape place 36
-Marked tape place Blank = Skipped tape place
+-- whether a B stands at the place
+abbrev pub Marked : List ℕ → ℕ → Bool → Type 0
+Marked tape place true = Stands tape place 66
+Marked tape place false = Begins 66 (drop place tape) → ⊥
+
+-- the bytes from the one place up to the other are skipped, and no byte after them is: a B comes then, or none does
+pub record Found (tape : List ℕ) (from to : ℕ) (begins : Bool) : Type 0 where
+  pub moves : to ≡ from + prefix_len is_blank (drop from tape)
+  pub mark : Marked tape to begins

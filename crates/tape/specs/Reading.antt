@@ -10,10 +10,10 @@ answered words (stopped place) = Ok (length words, place)
 answered words (bad place) = Err (BadWord place)
 answered words (full place) = Err (BufferFull place)
 
--- the answer, from the count of the words and from where the tape ends or why it is refused
-abbrev pub with_count : ℕ → Result ℕ TapeRefusal → Result (ℕ × ℕ) TapeRefusal
-with_count count (Ok place) = Ok (count, place)
-with_count count (Err refusal) = Err refusal
+-- the answer, from where the tape ends and from the count of the words or why it is refused
+abbrev pub with_place : ℕ → Result ℕ TapeRefusal → Result (ℕ × ℕ) TapeRefusal
+with_place place (Ok count) = Ok (count, place)
+with_place place (Err refusal) = Err refusal
 
 -- A tape is read into a buffer: its words stand at the front, and every other byte is as it was.
 pub record Reading (tape before after : List ℕ) (result : Result (ℕ × ℕ) TapeRefusal) : Type 0 where

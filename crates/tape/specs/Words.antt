@@ -1,8 +1,8 @@
--- A word of the tape, in the grammar's terms, and its place in the buffer.
-use Rattle.std.specs.Prelude.{◌≡◌, ℕ, suc, ◌+◌, ◌<◌, ◌≤◌, ◌⊎◌, List, [], ◌∷◌, length, drop, slice_set}
+-- A word of the tape, in the grammar's terms.
+use Rattle.std.specs.Prelude.{◌≡◌, ℕ, suc, ◌+◌, ◌≤◌, List, [], ◌∷◌, length, drop}
 use Rattle.tape.specs.Tape.{Ending, bad, later, Reads}
 use Rattle.tape.specs.declared.refusals.TapeRefusal.{TapeRefusal}
-use Rattle.tape.specs.declared.refusals.TapeRefusal.TheVariants.{BadWord, BufferFull}
+use Rattle.tape.specs.declared.refusals.TapeRefusal.TheVariants.{BadWord}
 
 -- eight letters and F stand from the place on, and spell v
 pub record WordFrom (tape : List ℕ) (from v : ℕ) : Type 0 where
@@ -14,15 +14,3 @@ pub record BrokenFrom (tape : List ℕ) (from : ℕ) (refusal : TapeRefusal) : T
   pub after : ℕ
   pub is : refusal ≡ BadWord (from + after)
   pub reads : {room : ℕ} → Reads (suc room) (66 ∷ drop from tape) [] (bad (1 + after))
-
--- the word whose B stands at `at` is placed, and nothing else of the buffer changes
-pub record Placed (tape : List ℕ) (at count : ℕ) (before after : List ℕ) : Type 0 where
-  pub value : ℕ
-  pub fits : count < length before
-  pub word : WordFrom tape (at + 1) value
-  pub writes : after ≡ slice_set before count value
-
--- the buffer is full, or the word breaks off; the buffer stays as it was
-pub record Unplaced (tape : List ℕ) (at count : ℕ) (before after : List ℕ) (refusal : TapeRefusal) : Type 0 where
-  pub keeps : after ≡ before
-  pub cause : ((count ≡ length before) × (refusal ≡ BufferFull at)) ⊎ ((count < length before) × BrokenFrom tape (at + 1) refusal)

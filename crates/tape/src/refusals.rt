@@ -1,6 +1,9 @@
 // Why a tape is refused, and where.
-ghost use Rattle.std.specs.Prelude.{◌≡◌};
-ghost use Rattle.tape.specs.Refusals.{refusal_number, refusal_place};
+ghost use Rattle.std.specs.Prelude.{◌≡◌, Some};
+ghost use Rattle.tape.specs.Refusals.{refusal_number, refusal_place, refusal_text};
+
+use std::error::Error;
+use std::fmt;
 
 // What stopped the reading of a tape, with the index of the byte at fault.
 #[derive(Clone, Copy, PartialEq, Eq, Debug)]
@@ -31,3 +34,14 @@ impl TapeRefusal {
         }
     }
 }
+
+// The refusal's number and the place of the byte at fault, as `tape 7 at 2`.
+impl fmt::Display for TapeRefusal {
+    ghost output = { λ refusal. Some (refusal_text refusal) };
+
+    fn fmt<W: fmt::Write>(&self, f: &mut fmt::Formatter<W>) -> fmt::Result {
+        write!(f, "tape {} at {}", self.number(), self.place())
+    }
+}
+
+impl Error for TapeRefusal {}
