@@ -2,3 +2,4 @@ pub mod Store
 pub mod Card
 pub mod Flat
 pub mod Latch
+pub mod Wiring

@@ -42,3 +42,8 @@ stored c b = record { byte = held_after c.kind c.byte b; kind = c.kind }
 -- the cells after a write: only the one at the address can differ
 abbrev pub written : Cells → ℕ → ℕ → Cells
 written m a b n = cond (n == a % 16384) (stored (m n) b) (m n)
+
+-- What no call on a lent store alters: where it lies, and what no call on it alters.
+pub record Lent (F : Type 0) : Type 0 where
+  pub place : ℕ
+  pub of : F

@@ -1,5 +1,6 @@
 ghost use Rattle.std.specs.Prelude.{◌≡◌, ℕ, ◌<◌, ◌≤◌, Err};
 ghost use Rattle.bus.specs.declared.cards.Trouble.TheVariants.{NoCard};
+ghost use Rattle.bus.specs.Store.{Lent};
 ghost use Rattle.bus.specs.Card.{Rules, input_of, output_of, trouble_number};
 
 // Why a transfer is refused.
@@ -12,7 +13,7 @@ pub enum Trouble {
 }
 
 impl Trouble {
-    // The refusal's number: 1 for no card, 2 for a spent one.
+    // The refusal's number, which never changes: 1 for no card, 2 for a spent one.
     pub fn number(self) -> u8
         ensures { result ≡ trouble_number self }
     {
@@ -63,4 +64,31 @@ pub trait PortCard {
 
     // Output ports end at 31.
     ghost output_ports_to: { (c : Self) (s : State) (p b : ℕ) → 32 ≤ p → (rules c).output s p b ≡ Err NoCard };
+}
+
+// A lent card is a card.
+impl<C: PortCard> PortCard for &mut C {
+    ghost State = { C.State };
+
+    ghost state = { λ r. C.state r.now };
+
+    ghost rules = { λ r. C.rules r.now };
+
+    ghost Frame = { Lent C.Frame };
+
+    ghost frame = { λ r. record { place = r.ghost_name; of = C.frame r.now } };
+
+    ghost input_ports = { λ r. C.input_ports r.now };
+
+    ghost output_ports_from = { λ r. C.output_ports_from r.now };
+
+    ghost output_ports_to = { λ r. C.output_ports_to r.now };
+
+    fn input(&mut self, port: u8, a: u8) -> Result<u8, Trouble> {
+        (**self).input(port, a)
+    }
+
+    fn output(&mut self, port: u8, byte: u8) -> Result<(), Trouble> {
+        (**self).output(port, byte)
+    }
 }

@@ -1,9 +1,11 @@
-ghost use Rattle.std.specs.Prelude.{◌≡◌, true, false};
+ghost use Rattle.std.specs.Prelude.{◌≡◌, ◌-◌, true, false, cond, Ok, Err, slice_index_or, nat_le, nat_lt, ◌&&◌};
+ghost use Rattle.bus.specs.declared.cards.Trouble.TheVariants.{NoCard};
 ghost use Rattle.bus.specs.Latch.{Latches, latch_rules, latches_of, fitted_of, zeroed, all_fitted};
 ghost use Rattle.bus.specs.Latch.{is_input, is_port, answer_if, with_input, offer_at, output_at, marked};
 ghost use Rattle.std.proofs.Common.{rules};
 
 use crate::cards::{PortCard, Trouble};
+use std::ops::Range;
 
 // The input ports come first, then the output ports.
 const INPUTS: usize = 8;
@@ -16,7 +18,8 @@ const PORTS: usize = 32;
 // output port, and a mark for each port that says whether it is fitted.
 // An input answers its byte and puts the accumulator into its offer latch. An output sets its byte.
 // A port that is not fitted has no card.
-#[derive(Clone, Copy)]
+// Bytes and marks stand apart, since the bytes are the card's state and the marks its rules.
+#[derive(Clone, Copy, PartialEq, Eq, Debug)]
 pub struct LatchCard {
     inputs: [u8; INPUTS],
     offers: [u8; INPUTS],
@@ -45,10 +48,7 @@ impl LatchCard {
         ensures latches { latches_of self.new ≡ with_input (latches_of self.old) port byte }
         ensures fitted { fitted_of self.new ≡ fitted_of self.old }
     {
-        let n = usize::from(port);
-        if n >= INPUTS {
-            return Err(Trouble::NoCard);
-        }
+        let n = place_among(0..INPUTS, port)?;
         self.inputs[n] = byte;
         Ok(())
     }
@@ -58,12 +58,7 @@ impl LatchCard {
     pub fn offer(&self, port: u8) -> Result<u8, Trouble>
         ensures { result ≡ offer_at (latches_of self.now) port }
     {
-        let n = usize::from(port);
-        if n < INPUTS {
-            Ok(self.offers[n])
-        } else {
-            Err(Trouble::NoCard)
-        }
+        Ok(self.offers[place_among(0..INPUTS, port)?])
     }
 
     // The byte last put out at an output port. Refused as having no card where `port` is no output
@@ -71,14 +66,10 @@ impl LatchCard {
     pub fn output_byte(&self, port: u8) -> Result<u8, Trouble>
         ensures { result ≡ output_at (latches_of self.now) port }
     {
-        let n = usize::from(port);
-        if n >= INPUTS && n < PORTS {
-            Ok(self.outputs[n - INPUTS])
-        } else {
-            Err(Trouble::NoCard)
-        }
+        Ok(self.outputs[place_among(INPUTS..PORTS, port)?])
     }
 
+    // Two calls and not one with a flag: a call says by its name what becomes of the port.
     // Fits a port. Refused as having no card where there is no such port.
     pub fn fit(&mut self, port: u8) -> Result<(), Trouble>
         ensures answer { result ≡ answer_if (is_port port) }
@@ -103,12 +94,20 @@ impl LatchCard {
         ensures fitted { fitted_of self.new ≡ marked (fitted_of self.old) port fitted }
         ensures latches { latches_of self.new ≡ latches_of self.old }
     {
-        let n = usize::from(port);
-        if n >= PORTS {
-            return Err(Trouble::NoCard);
-        }
+        let n = place_among(0..PORTS, port)?;
         self.fitted[n] = fitted;
         Ok(())
+    }
+
+    // The place of a fitted port among `ports`. Refused as having no card where it is none of them,
+    // or is not fitted.
+    fn fitted_among(&self, ports: Range<usize>, port: u8) -> Result<usize, Trouble>
+        ensures { result ≡ cond (nat_le ports.start port && nat_lt port ports.end && slice_index_or (fitted_of self.now) port false) (Ok (port - ports.start)) (Err NoCard) }
+    {
+        match self.fitted.get(usize::from(port)) {
+            Some(true) => place_among(ports, port),
+            _ => Err(Trouble::NoCard),
+        }
     }
 }
 
@@ -130,22 +129,26 @@ impl PortCard for LatchCard {
     ghost output_ports_to = { Prim.search rules };
 
     fn input(&mut self, port: u8, a: u8) -> Result<u8, Trouble> {
-        let n = usize::from(port);
-        if n < INPUTS && self.fitted[n] {
-            self.offers[n] = a;
-            Ok(self.inputs[n])
-        } else {
-            Err(Trouble::NoCard)
-        }
+        let n = self.fitted_among(0..INPUTS, port)?;
+        self.offers[n] = a;
+        Ok(self.inputs[n])
     }
 
     fn output(&mut self, port: u8, byte: u8) -> Result<(), Trouble> {
-        let n = usize::from(port);
-        if n >= INPUTS && n < PORTS && self.fitted[n] {
-            self.outputs[n - INPUTS] = byte;
-            Ok(())
-        } else {
-            Err(Trouble::NoCard)
-        }
+        let n = self.fitted_among(INPUTS..PORTS, port)?;
+        self.outputs[n] = byte;
+        Ok(())
+    }
+}
+
+// The place of a port among `ports`. Refused as having no card where it is none of them.
+fn place_among(ports: Range<usize>, port: u8) -> Result<usize, Trouble>
+    ensures { result ≡ cond (nat_le ports.start port && nat_lt port ports.end) (Ok (port - ports.start)) (Err NoCard) }
+{
+    let n = usize::from(port);
+    if ports.contains(&n) {
+        Ok(n - ports.start)
+    } else {
+        Err(Trouble::NoCard)
     }
 }

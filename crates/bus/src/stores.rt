@@ -1,5 +1,15 @@
-ghost use Rattle.std.specs.Prelude.{◌≡◌};
-ghost use Rattle.bus.specs.Store.{Cells, byte_at, answer_at, written};
+ghost use Rattle.std.specs.Prelude.{◌≡◌, ◌%◌};
+ghost use Rattle.bus.specs.Store.{Cells, Lent, byte_at, answer_at, written};
+
+// The cells of a store.
+const CELLS: u16 = 16384;
+
+// The number of the cell that an address names: the address mod 16,384.
+pub fn cell_at(address: u16) -> usize
+    ensures { result ≡ address % 16384 }
+{
+    usize::from(address % CELLS)
+}
 
 // What became of a write.
 #[derive(Clone, Copy, PartialEq, Eq, Debug)]
@@ -35,4 +45,21 @@ pub trait Store {
         ensures answer { result ≡ answer_at (cells self.old) address }
         ensures after { cells self.new ≡ written (cells self.old) address byte }
         ensures frame_kept { frame self.new ≡ frame self.old };
+}
+
+// A lent store is a store.
+impl<S: Store> Store for &mut S {
+    ghost cells = { λ r. S.cells r.now };
+
+    ghost Frame = { Lent S.Frame };
+
+    ghost frame = { λ r. record { place = r.ghost_name; of = S.frame r.now } };
+
+    fn read(&mut self, address: u16) -> u8 {
+        (**self).read(address)
+    }
+
+    fn write(&mut self, address: u16, byte: u8) -> Written {
+        (**self).write(address, byte)
+    }
 }

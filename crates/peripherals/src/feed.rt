@@ -1,10 +1,12 @@
-ghost use Rattle.std.specs.Prelude.{◌≡◌};
+ghost use Rattle.std.specs.Prelude.{◌≡◌, ◌==◌, ◌&&◌, nat_le, nat_lt};
+ghost use Rattle.bus.specs.Latch.{answer_if};
 ghost use Rattle.peripherals.specs.Feed.{Feed, FeedFrame, feed_rules, feed_of, wiring_of, feed_frame};
 ghost use Rattle.peripherals.specs.Feed.{unfed, wired, feed_frame_at};
 ghost use Rattle.std.proofs.Common.{arith};
 ghost use Rattle.std.proofs.lemmas.Bool.Decides.{nat_tests};
 
 use bus::{PortCard, Trouble};
+use std::ops::Range;
 
 // The input ports come first, then the output ports.
 const INPUTS: u8 = 8;
@@ -17,6 +19,7 @@ const PORTS: u8 = 32;
 // buffer. The input port is spent at the end of the list, and the output port once the buffer is
 // full. An input port that is not 0 to 7 has no card, and neither has an output port that is not 8
 // to 31.
+// List and buffer are lent, and each has its count beside it: there is no heap, and the counts are told.
 #[derive(Drop)]
 pub struct FeedCard<'l, 'b> {
     list: &'l [u8],
@@ -81,26 +84,31 @@ impl PortCard for FeedCard<'_, '_> {
     ghost frame = { feed_frame };
 
     fn input(&mut self, port: u8, _a: u8) -> Result<u8, Trouble> {
-        if port >= INPUTS || port != self.input_port {
-            return Err(Trouble::NoCard);
-        }
-        if self.taken >= self.list.len() {
-            return Err(Trouble::Spent);
-        }
-        let byte = self.list[self.taken];
+        want_port(0..INPUTS, self.input_port, port)?;
+        let byte = *self.list.get(self.taken).ok_or(Trouble::Spent)?;
         self.taken += 1;
         Ok(byte)
     }
 
     fn output(&mut self, port: u8, byte: u8) -> Result<(), Trouble> {
-        if port < INPUTS || port >= PORTS || port != self.output_port {
-            return Err(Trouble::NoCard);
-        }
+        want_port(INPUTS..PORTS, self.output_port, port)?;
         if self.sent >= self.buffer.len() {
             return Err(Trouble::Spent);
         }
+        // By index: of a write through `get_mut` a proof knows the buffer's length, and not its bytes.
         self.buffer[self.sent] = byte;
         self.sent += 1;
         Ok(())
+    }
+}
+
+// Refuses a port that is none of `ports`, or not the one that is wired, as having no card.
+fn want_port(ports: Range<u8>, wired: u8, port: u8) -> Result<(), Trouble>
+    ensures { result ≡ answer_if (nat_le ports.start port && nat_lt port ports.end && port == wired) }
+{
+    if ports.contains(&port) && port == wired {
+        Ok(())
+    } else {
+        Err(Trouble::NoCard)
     }
 }

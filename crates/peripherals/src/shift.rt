@@ -1,12 +1,9 @@
-ghost use Rattle.std.specs.Prelude.{◌≡◌, ◌%◌, ◌<◌, true, length};
+ghost use Rattle.std.specs.Prelude.{◌≡◌, ◌%◌, ◌<◌, cond, true, Some, None, length};
 ghost use Rattle.bus.specs.Store.{byte_at, answer_at, written};
 ghost use Rattle.peripherals.specs.Shift.{ShiftFrame, shift, shift_cells, shift_frame, shift_frame_at};
 ghost use Rattle.peripherals.specs.Shift.{bytes_of, head_of, has_cell, head_after, place_of, places_in, place_after};
 
-use bus::{Store, Written};
-
-// Addresses are taken mod the number of cells that a store has.
-const CELLS: u16 = 16384;
+use bus::{Store, Written, cell_at};
 
 // The first cell of the ring, 0800H.
 const FIRST: usize = 2048;
@@ -47,11 +44,7 @@ impl<'a> ShiftStore<'a> {
     fn places(&self) -> usize
         ensures { result ≡ places_in (length (bytes_of self.now)) }
     {
-        if self.bytes.len() < RING {
-            self.bytes.len()
-        } else {
-            RING
-        }
+        self.bytes.len().min(RING)
     }
 
     // Moves the head one place forward, and from the last place, or past it, round to the first.
@@ -64,7 +57,7 @@ impl<'a> ShiftStore<'a> {
         self.head = if self.head < last { self.head + 1 } else { 0 };
     }
 
-    // Steps the head round to a place of the ring.
+    // Steps the head round to a place of the ring, one place at a time, as shift registers move.
     fn turn_to(&mut self, place: usize)
         requires { place < places_in (length (bytes_of self.old)) }
         ensures head { head_of self.new ≡ place }
@@ -76,25 +69,28 @@ impl<'a> ShiftStore<'a> {
         }
     }
 
-    // Whether the ring has the cell at an address.
-    fn has(&self, address: u16) -> bool
-        ensures { result ≡ has_cell self.now address }
+    // The place of the cell at an address, where the ring has it.
+    fn place_in_ring(&self, address: u16) -> Option<usize>
+        ensures { result ≡ cond (has_cell self.now address) (Some (place_of (address % 16384))) None }
     {
-        let n = cell_at(address);
-        n >= FIRST && n - FIRST < self.places()
+        let place = cell_at(address).checked_sub(FIRST)?;
+        (place < self.places()).then_some(place)
     }
 
-    // Brings the head to the cell at an address, which the ring has.
-    fn seek(&mut self, address: u16)
-        requires { has_cell self.old address ≡ true }
-        ensures head { head_of self.new ≡ place_of (address % 16384) }
+    // Brings the head to the cell at an address, where the ring has it, and answers its place.
+    fn seek(&mut self, address: u16) -> Option<usize>
+        ensures place { result ≡ cond (has_cell self.old address) (Some (place_of (address % 16384))) None }
+        ensures head { head_of self.new ≡ head_after self.old address }
         ensures bytes_kept { bytes_of self.new ≡ bytes_of self.old }
         ensures frame_kept { shift_frame self.new ≡ shift_frame self.old }
     {
-        self.turn_to(cell_at(address) - FIRST);
+        let place = self.place_in_ring(address)?;
+        self.turn_to(place);
+        Some(place)
     }
 
     // Sets the cell at an address, which the ring has. The head stands there.
+    // Apart from `write`, where the proof that the other cells stay did not close.
     fn put(&mut self, address: u16, byte: u8)
         requires in_ring { has_cell self.old address ≡ true }
         requires at_cell { head_of self.old ≡ place_of (address % 16384) }
@@ -120,11 +116,9 @@ impl Store for ShiftStore<'_> {
         ensures frame_kept { shift_frame self.new ≡ shift_frame self.old }
         ensures head { head_of self.new ≡ head_after self.old address }
     {
-        if self.has(address) {
-            self.seek(address);
-            self.bytes[self.head]
-        } else {
-            255
+        match self.seek(address) {
+            Some(place) => self.bytes[place],
+            None => 255,
         }
     }
 
@@ -135,19 +129,12 @@ impl Store for ShiftStore<'_> {
         ensures frame_kept { shift_frame self.new ≡ shift_frame self.old }
         ensures head { head_of self.new ≡ head_after self.old address }
     {
-        if self.has(address) {
-            self.seek(address);
-            self.put(address, byte);
-            Written::Taken
-        } else {
-            Written::Dropped
+        match self.seek(address) {
+            Some(_) => {
+                self.put(address, byte);
+                Written::Taken
+            }
+            None => Written::Dropped,
         }
     }
-}
-
-// The number of the cell that an address names.
-fn cell_at(address: u16) -> usize
-    ensures { result ≡ address % 16384 }
-{
-    usize::from(address % CELLS)
 }

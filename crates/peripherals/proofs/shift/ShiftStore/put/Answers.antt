@@ -1,9 +1,5 @@
-use Rattle.std.proofs.Common.{◌<◌, arith, length-set, drop-set-lt, rules}
+use Rattle.std.proofs.Common.{◌<◌, arith, drop-set-lt, rules}
 use Rattle.peripherals.proofs.shift.ShiftStore.put.Goals as goal
 
-pub returns : goal.returns
-returns c = record {
-  after = search rules;
-  frame_kept = let below : c.args.self.now.head < 1024 = grind arith in simp (length-set, drop-set-lt);
-  head_kept = search rules;
-}
+pub returns-clause-frame_kept : goal.returns-clause-frame_kept
+returns-clause-frame_kept c = let below : c.args.self.now.head < 1024 = grind arith in search (rules, drop-set-lt)
