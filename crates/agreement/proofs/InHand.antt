@@ -14,7 +14,6 @@ use Rattle.cpu.specs.Processor.{View, pc_in, with_stopped, advancing}
 use Rattle.cpu.specs.Place.{Place, byte_in, with_processor}
 use Rattle.stepper.specs.declared.feeds.Feed.{Feed}
 use Rattle.stepper.specs.declared.feeds.Feed.TheVariants.{Own, Jam}
-use Rattle.stepper.specs.declared.feeds.Stepped.TheVariants.{Stopped as StaysStopped, Done}
 use Rattle.stepper.specs.Instructions.{Performed}
 use Rattle.stepper.specs.Steps.{first_byte, opened, carried_out, settled, stepped}
 use Rattle.states.specs.declared.ticks.Levels.{Levels}
@@ -97,7 +96,7 @@ Matches s b (Goes w) p = Later w.cycle w.next × Working s b (finish w p)
 abbrev pub NextBy : {S : Type 0} → Option ℕ → Place S → Begun → Situation S → Type 0
 NextBy None s b t = Matches s b t.hand t.place
 NextBy (Some states) s b t =
-    (f : Feed) × (b ≡ begun_by f) × (stepped f s ≡ record { answer = Ok (Done states); after = t.place }) × (t.hand ≡ Start)
+    (f : Feed) × (b ≡ begun_by f) × (stepped f s ≡ record { answer = Ok (Some states); after = t.place }) × (t.hand ≡ Start)
 
 abbrev pub Next : {S : Type 0} → Levels → Place S → Begun → Result Ticked Fault → Situation S → Type 0
 Next l s b (Ok t) after = NextBy t.ended s (begun_after b l.jam t.state (eqb t.cycle 1)) after
@@ -109,9 +108,9 @@ Nexts l s b o = Next l s b o.answer o.after
 -- An instruction carried out is a step.
 step_ends : {S : Type 0} (f : Feed) (s : Place S) (e : Performed S) → Awake f s →
     carried_out (pc_in s.processor) (decoded (first_byte f s)) (opened f s) ≡ Ok e →
-    stepped f s ≡ record { answer = Ok (Done e.states); after = e.place }
+    stepped f s ≡ record { answer = Ok (Some e.states); after = e.place }
 step_ends Own s e a c =
-    ap (λ b. cond b (record { answer = Ok StaysStopped; after = s }) (settled s (carried_out (pc_in s.processor) (decoded (first_byte Own s)) (opened Own s)))) a ∙
+    ap (λ b. cond b (record { answer = Ok None; after = s }) (settled s (carried_out (pc_in s.processor) (decoded (first_byte Own s)) (opened Own s)))) a ∙
     ap (settled s) c
 step_ends (Jam byte) s e a c = ap (settled s) c
 

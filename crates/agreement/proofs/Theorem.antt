@@ -5,8 +5,6 @@ use Rattle.cpu.specs.declared.faults.Fault.{Fault}
 use Rattle.cpu.specs.Place.{Place, writing}
 use Rattle.stepper.specs.declared.feeds.Feed.{Feed}
 use Rattle.stepper.specs.declared.feeds.Feed.TheVariants.{Own, Jam}
-use Rattle.stepper.specs.declared.feeds.Stepped.{Stepped}
-use Rattle.stepper.specs.declared.feeds.Stepped.TheVariants.{Stopped, Done}
 use Rattle.stepper.specs.Steps.{stepped}
 use Rattle.states.specs.declared.ticks.Levels.{Levels}
 use Rattle.states.specs.declared.ticks.Ticked.{Ticked}
@@ -171,10 +169,10 @@ pub ticks_add_up : {S : Type 0} (start : Place S) → TicksAddUp start
 ticks_add_up start es s k x = add_up x
 
 -- The states that a list of answers comes to.
-answered : List (Result Stepped Fault) → ℕ
+answered : List (Result (Option ℕ) Fault) → ℕ
 answered [] = 0
-answered (Ok (Done n) ∷ rs) = n + answered rs
-answered (Ok Stopped ∷ rs) = answered rs
+answered (Ok (Some n) ∷ rs) = n + answered rs
+answered (Ok None ∷ rs) = answered rs
 answered (Err f ∷ rs) = answered rs
 
 answered_sum : (ns : List ℕ) → answered (map carried_out ns) ≡ sum ns

@@ -2,8 +2,6 @@
 use Rattle.std.specs.Prelude.{◌≡◌, ℕ, ◌+◌, ◌-◌, List, [], ◌∷◌, map, length, Some, None, Ok, Err, Option, Result}
 use Rattle.cpu.specs.declared.faults.Fault.{Fault}
 use Rattle.cpu.specs.Place.{Place}
-use Rattle.stepper.specs.declared.feeds.Stepped.{Stepped}
-use Rattle.stepper.specs.declared.feeds.Stepped.TheVariants.{Done}
 use Rattle.states.specs.Situation.{Situation}
 use Rattle.states.specs.Sequencing.{states_in_hand}
 use Rattle.states.specs.TickLaws.{wait, idle}
@@ -73,8 +71,8 @@ abbrev pub sum : List ℕ → ℕ
 sum [] = 0
 sum (n ∷ ns) = n + sum ns
 
-abbrev pub carried_out : ℕ → Result Stepped Fault
-carried_out states = Ok (Done states)
+abbrev pub carried_out : ℕ → Result (Option ℕ) Fault
+carried_out states = Ok (Some states)
 
 -- As each instruction ends, registers, flags, ring, ring number, stopped mark, cells with kinds and the card's rules and
 -- state are those of the instruction machine, fed the list that the calls and their answers make; and each of its steps was

@@ -4,7 +4,6 @@ use Rattle.cpu.specs.declared.faults.Fault.{Fault}
 use Rattle.cpu.specs.Place.{Place, writing}
 use Rattle.stepper.specs.declared.feeds.Feed.{Feed}
 use Rattle.stepper.specs.declared.feeds.Feed.TheVariants.{Own, Jam}
-use Rattle.stepper.specs.declared.feeds.Stepped.{Stepped}
 use Rattle.stepper.specs.Steps.{stepped}
 use Rattle.states.specs.declared.ticks.Levels.{Levels}
 use Rattle.states.specs.declared.ticks.State.{State}
@@ -75,7 +74,7 @@ program_of (e ∷ es) = adds e (program_of es)
 -- own or a jam it takes that step.
 pub record Fed (S : Type 0) : Type 0 where
   pub place : Place S
-  pub answers : List (Result Stepped Fault)
+  pub answers : List (Result (Option ℕ) Fault)
 
 abbrev pub feeds : {S : Type 0} → Item → Fed S → Fed S
 feeds (write address byte) f = record { place = writing f.place address byte; answers = f.answers }

@@ -1,2 +1,1 @@
-mod Entries
 pub mod Nesting

@@ -2,6 +2,7 @@
 use Rattle.std.specs.Prelude.{ℕ}
 use Rattle.bus.specs.Store.{Cells, byte_at, written}
 use Rattle.bus.specs.Card.{Rules}
+use Rattle.bus.specs.Wiring.{Wiring}
 use Rattle.cpu.specs.declared.processors.Processor.{Processor}
 use Rattle.cpu.specs.Processor.{View, view_of, powered}
 
@@ -12,12 +13,13 @@ pub record Place (S : Type 0) : Type 0 where
   pub rules : Rules S
   pub state : S
 
-abbrev pub place_of : {S : Type 0} → Processor → Cells → Rules S → S → Place S
-place_of p m r s = record { processor = view_of p; cells = m; rules = r; state = s }
+-- A processor that is wired so.
+abbrev pub place_of : {S : Type 0} → Processor → Wiring S → Place S
+place_of p w = record { processor = view_of p; cells = w.cells; rules = w.rules; state = w.state }
 
--- A processor just powered up, over these cells and this port card.
-abbrev pub powered_place : {S : Type 0} → Cells → Rules S → S → Place S
-powered_place m r s = record { processor = powered; cells = m; rules = r; state = s }
+-- A processor just powered up, and wired so.
+abbrev pub powered_place : {S : Type 0} → Wiring S → Place S
+powered_place w = record { processor = powered; cells = w.cells; rules = w.rules; state = w.state }
 
 -- The byte at an address.
 abbrev pub byte_in : {S : Type 0} → Place S → ℕ → ℕ

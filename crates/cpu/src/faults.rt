@@ -1,21 +1,21 @@
 ghost use Rattle.std.specs.Prelude.{◌≡◌};
-ghost use Rattle.cpu.specs.Faults.{cause_number, decoder_fault, card_fault, placed};
+ghost use Rattle.cpu.specs.Faults.{cause_number, cause_of, decoder_fault, card_fault, placed};
 
 use bus::Trouble;
 
 // Why an instruction is refused.
-#[derive(Clone, Copy)]
+#[derive(Clone, Copy, PartialEq, Eq, Debug)]
 pub enum Cause {
     // There is no card at the port.
-    NoCard,
+    NoCard = 1,
     // The card at the port is spent.
-    Spent,
+    Spent = 2,
     // The first byte is no instruction.
-    NoInstruction,
+    NoInstruction = 3,
 }
 
 // Who refused it.
-#[derive(Clone, Copy)]
+#[derive(Clone, Copy, PartialEq, Eq, Debug)]
 pub enum Layer {
     Decoder,
     PortCard,
@@ -23,11 +23,12 @@ pub enum Layer {
 
 // A refused instruction: why and by whom, the program counter at the instruction's start, and the cycle
 // in which it was refused.
-#[derive(Clone, Copy)]
+#[derive(Clone, Copy, PartialEq, Eq, Debug)]
 pub struct Fault {
     pub cause: Cause,
     pub layer: Layer,
     pub pc: u16,
+    // Its number, as the answer of a tick has it, where 0 is that of no cycle.
     pub cycle: u8,
 }
 
@@ -36,10 +37,18 @@ impl Cause {
     pub fn number(self) -> u8
         ensures { result ≡ cause_number self }
     {
-        match self {
-            Cause::NoCard => 1,
-            Cause::Spent => 2,
-            Cause::NoInstruction => 3,
+        self as u8
+    }
+}
+
+// The cause of a port card's trouble.
+impl From<Trouble> for Cause {
+    ghost from_gives = { λ trouble cause. cause ≡ cause_of trouble };
+
+    fn from(trouble: Trouble) -> Self {
+        match trouble {
+            Trouble::NoCard => Cause::NoCard,
+            Trouble::Spent => Cause::Spent,
         }
     }
 }
@@ -61,12 +70,8 @@ impl Fault {
     pub fn in_card(trouble: Trouble, pc: u16, cycle: u8) -> Fault
         ensures { result ≡ card_fault pc cycle trouble }
     {
-        let cause = match trouble {
-            Trouble::NoCard => Cause::NoCard,
-            Trouble::Spent => Cause::Spent,
-        };
         Fault {
-            cause,
+            cause: trouble.into(),
             layer: Layer::PortCard,
             pc,
             cycle,
@@ -77,9 +82,6 @@ impl Fault {
     pub fn place<T>(answer: Result<T, Trouble>, pc: u16, cycle: u8) -> Result<T, Fault>
         ensures { result ≡ placed pc cycle answer }
     {
-        match answer {
-            Ok(value) => Ok(value),
-            Err(trouble) => Err(Fault::in_card(trouble, pc, cycle)),
-        }
+        answer.map_err(|trouble| Fault::in_card(trouble, pc, cycle))
     }
 }

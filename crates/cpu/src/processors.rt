@@ -5,7 +5,7 @@ use crate::address_ring::AddressRing;
 use isa::{Flags, Registers};
 
 // A processor: all that it holds from one instruction to the next.
-#[derive(Clone, Copy)]
+#[derive(Clone, Copy, PartialEq, Eq, Debug)]
 pub struct Processor {
     pub registers: Registers,
     pub flags: Flags,
@@ -19,21 +19,8 @@ impl Processor {
         ensures { view_of result ≡ powered }
     {
         Processor {
-            registers: Registers {
-                a: 0,
-                b: 0,
-                c: 0,
-                d: 0,
-                e: 0,
-                h: 0,
-                l: 0,
-            },
-            flags: Flags {
-                carry: false,
-                zero: false,
-                sign: false,
-                parity: false,
-            },
+            registers: Registers::default(),
+            flags: Flags::default(),
             ring: AddressRing::new(),
             stopped: true,
         }

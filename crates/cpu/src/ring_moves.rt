@@ -62,6 +62,7 @@ impl AddressRing {
     pub fn come_back(self) -> AddressRing
         ensures { ring_of result ≡ returned (ring_of self) }
     {
+        // Bound first: the check takes no `..self` beside facts, and no array field straight into a literal.
         let registers = self.registers;
         AddressRing {
             registers,

@@ -1,6 +1,5 @@
 -- What a machine is, with the store and the port card that it works on.
-use Rattle.bus.specs.Store.{Cells}
-use Rattle.bus.specs.Card.{Rules}
+use Rattle.bus.specs.Wiring.{Wiring}
 use Rattle.cpu.specs.Processor.{view_of}
 use Rattle.cpu.specs.Place.{place_of}
 use Rattle.states.specs.declared.ticks.Ticked.{Ticked}
@@ -8,8 +7,8 @@ use Rattle.states.specs.Situation.{Situation, situation}
 use Rattle.states.specs.States.{Quiet, quiet}
 use Rattle.machine.specs.declared.machines.Machine.{Machine}
 
-abbrev pub situation_of : {S : Type 0} → Machine → Cells → Rules S → S → Situation S
-situation_of m c r s = situation m.hand (place_of m.processor c r s)
+abbrev pub situation_of : {S : Type 0} → Machine → Wiring S → Situation S
+situation_of m w = situation m.hand (place_of m.processor w)
 
 -- What a state told, and the machine after it.
 abbrev pub quiet_of : Ticked → Machine → Quiet

@@ -1,5 +1,6 @@
 ghost use Rattle.std.specs.Prelude.{◌≡◌, is_ok};
-ghost use Rattle.bus.specs.Store.{byte_at, answer_at, written};
+ghost use Rattle.bus.specs.Store.{byte_at, answer_at};
+ghost use Rattle.bus.specs.Wiring.{writing};
 ghost use Rattle.agreement.specs.Calls.{Use, run, held, hold as Held, examine as Examined, deposit as Deposited, release as Released};
 ghost use Rattle.machine.specs.Machines.{situation_of};
 ghost use Rattle.machine.specs.Holding.{at_start, key_after};
@@ -7,23 +8,18 @@ ghost use Rattle.machine.specs.Holding.{at_start, key_after};
 use crate::keys::{HoldKey, RunKey};
 use crate::machines::Machine;
 use crate::refusals::HoldRefusal;
-use bus::{PortCard, Store, Written};
+use bus::{MemoryBus, Wired, Written};
 use states::InHand;
 
 impl Machine {
     // Turns the run key into a hold key at an instruction's start, also of a stopped machine. Inside an
-    // instruction the hold is refused by 4, and the run key comes back. Machine, store and card stay as they are;
-    // store and card are only looked at to say of what the promise speaks.
-    pub fn hold<S: Store, C: PortCard>(
-        &self,
-        key: RunKey,
-        store: &S,
-        card: &C,
-    ) -> Result<HoldKey, HoldRefusal>
+    // instruction the hold is refused by 4, and the run key comes back. Machine, store and card stay as they are; the
+    // bus is only looked at to say of what the promise speaks.
+    pub fn hold<B: Wired>(&self, key: RunKey, bus: &B) -> Result<HoldKey, HoldRefusal>
         ensures answer { is_ok result ≡ at_start self.now.hand }
-        ensures used { Use (situation_of self.now (S.cells store.now) (C.rules card.now) (C.state card.now)) run (Held (is_ok result)) (situation_of self.now (S.cells store.now) (C.rules card.now) (C.state card.now)) (key_after (is_ok result)) }
+        ensures used { Use (situation_of self.now (B.wiring bus.now)) run (Held (is_ok result)) (situation_of self.now (B.wiring bus.now)) (key_after (is_ok result)) }
     {
-        if self.may_hold(store, card) {
+        if self.may_hold(bus) {
             let RunKey { only } = key;
             Ok(HoldKey { only })
         } else {
@@ -31,82 +27,66 @@ impl Machine {
         }
     }
 
-    // The byte of a cell of the held machine's store. No cell changes.
-    pub fn examine<S: Store, C: PortCard>(
-        &self,
-        _key: &HoldKey,
-        store: &mut S,
-        card: &C,
-        address: u16,
-    ) -> u8
-        ensures value { result ≡ byte_at (S.cells store.old) address }
-        ensures cells_kept { S.cells store.new ≡ S.cells store.old }
-        ensures frame_kept { S.frame store.new ≡ S.frame store.old }
-        ensures used { Use (situation_of self.now (S.cells store.old) (C.rules card.now) (C.state card.now)) held (Examined address result) (situation_of self.now (S.cells store.new) (C.rules card.now) (C.state card.now)) held }
+    // The byte of a cell of the held machine's store. No cell changes, nor does the card.
+    pub fn examine<B: MemoryBus>(&self, _key: &HoldKey, bus: &mut B, address: u16) -> u8
+        ensures value { result ≡ byte_at (B.wiring bus.old).cells address }
+        ensures kept { B.wiring bus.new ≡ B.wiring bus.old }
+        ensures frame_kept { B.frame bus.new ≡ B.frame bus.old }
+        ensures used { Use (situation_of self.now (B.wiring bus.old)) held (Examined address result) (situation_of self.now (B.wiring bus.new)) held }
     {
-        self.read_held(store, card, address)
+        self.read_held(bus, address)
     }
 
     // Writes a byte to a cell of the held machine's store: taken where the cell is RAM, and dropped where it is
-    // fixed.
-    pub fn deposit<S: Store, C: PortCard>(
+    // fixed. The card stays as it is.
+    pub fn deposit<B: MemoryBus>(
         &self,
         _key: &HoldKey,
-        store: &mut S,
-        card: &C,
+        bus: &mut B,
         address: u16,
         byte: u8,
     ) -> Written
-        ensures answer { result ≡ answer_at (S.cells store.old) address }
-        ensures after { S.cells store.new ≡ written (S.cells store.old) address byte }
-        ensures frame_kept { S.frame store.new ≡ S.frame store.old }
-        ensures used { Use (situation_of self.now (S.cells store.old) (C.rules card.now) (C.state card.now)) held (Deposited address byte result) (situation_of self.now (S.cells store.new) (C.rules card.now) (C.state card.now)) held }
+        ensures answer { result ≡ answer_at (B.wiring bus.old).cells address }
+        ensures after { B.wiring bus.new ≡ writing (B.wiring bus.old) address byte }
+        ensures frame_kept { B.frame bus.new ≡ B.frame bus.old }
+        ensures used { Use (situation_of self.now (B.wiring bus.old)) held (Deposited address byte result) (situation_of self.now (B.wiring bus.new)) held }
     {
-        self.write_held(store, card, address, byte)
+        self.write_held(bus, address, byte)
     }
 
     // Turns the hold key back into a run key. Machine, store and card stay as they are.
-    pub fn release<S: Store, C: PortCard>(&self, key: HoldKey, store: &S, card: &C) -> RunKey
-        ensures used { Use (situation_of self.now (S.cells store.now) (C.rules card.now) (C.state card.now)) held Released (situation_of self.now (S.cells store.now) (C.rules card.now) (C.state card.now)) run }
+    pub fn release<B: Wired>(&self, key: HoldKey, bus: &B) -> RunKey
+        ensures used { Use (situation_of self.now (B.wiring bus.now)) held Released (situation_of self.now (B.wiring bus.now)) run }
     {
         let HoldKey { only } = key;
         RunKey { only }
     }
 
     // Whether the machine is at an instruction's start, as a call of a history.
-    fn may_hold<S: Store, C: PortCard>(&self, store: &S, card: &C) -> bool
+    fn may_hold<B: Wired>(&self, bus: &B) -> bool
         ensures answer { result ≡ at_start self.now.hand }
-        ensures used { Use (situation_of self.now (S.cells store.now) (C.rules card.now) (C.state card.now)) run (Held result) (situation_of self.now (S.cells store.now) (C.rules card.now) (C.state card.now)) (key_after result) }
+        ensures used { Use (situation_of self.now (B.wiring bus.now)) run (Held result) (situation_of self.now (B.wiring bus.now)) (key_after result) }
     {
-        match self.hand {
-            InHand::Start => true,
-            _ => false,
-        }
+        matches!(self.hand, InHand::Start)
     }
 
     // Reads a cell, as a call of a history.
-    fn read_held<S: Store, C: PortCard>(&self, store: &mut S, card: &C, address: u16) -> u8
-        ensures value { result ≡ byte_at (S.cells store.old) address }
-        ensures cells_kept { S.cells store.new ≡ S.cells store.old }
-        ensures frame_kept { S.frame store.new ≡ S.frame store.old }
-        ensures used { Use (situation_of self.now (S.cells store.old) (C.rules card.now) (C.state card.now)) held (Examined address result) (situation_of self.now (S.cells store.new) (C.rules card.now) (C.state card.now)) held }
+    fn read_held<B: MemoryBus>(&self, bus: &mut B, address: u16) -> u8
+        ensures value { result ≡ byte_at (B.wiring bus.old).cells address }
+        ensures kept { B.wiring bus.new ≡ B.wiring bus.old }
+        ensures frame_kept { B.frame bus.new ≡ B.frame bus.old }
+        ensures used { Use (situation_of self.now (B.wiring bus.old)) held (Examined address result) (situation_of self.now (B.wiring bus.new)) held }
     {
-        store.read(address)
+        bus.read(address)
     }
 
     // Writes to a cell, as a call of a history.
-    fn write_held<S: Store, C: PortCard>(
-        &self,
-        store: &mut S,
-        card: &C,
-        address: u16,
-        byte: u8,
-    ) -> Written
-        ensures answer { result ≡ answer_at (S.cells store.old) address }
-        ensures after { S.cells store.new ≡ written (S.cells store.old) address byte }
-        ensures frame_kept { S.frame store.new ≡ S.frame store.old }
-        ensures used { Use (situation_of self.now (S.cells store.old) (C.rules card.now) (C.state card.now)) held (Deposited address byte result) (situation_of self.now (S.cells store.new) (C.rules card.now) (C.state card.now)) held }
+    fn write_held<B: MemoryBus>(&self, bus: &mut B, address: u16, byte: u8) -> Written
+        ensures answer { result ≡ answer_at (B.wiring bus.old).cells address }
+        ensures after { B.wiring bus.new ≡ writing (B.wiring bus.old) address byte }
+        ensures frame_kept { B.frame bus.new ≡ B.frame bus.old }
+        ensures used { Use (situation_of self.now (B.wiring bus.old)) held (Deposited address byte result) (situation_of self.now (B.wiring bus.new)) held }
     {
-        store.write(address, byte)
+        bus.write(address, byte)
     }
 }

@@ -1,3 +1,5 @@
+// Keys are parameters of their own beside the machine, since holding moves one away and releasing moves one back.
+
 // The right to tick a machine and to run it. `power` makes one, and `release` turns a hold key back into one;
 // nothing else does.
 #[derive(Drop)]

@@ -9,26 +9,26 @@ ghost use Rattle.states.specs.WholeInstruction.{LastsItsTableStates};
 
 use crate::keys::RunKey;
 use crate::machines::Machine;
-use bus::{PortCard, Store};
+use bus::Wired;
 use cpu::Processor;
 use states::InHand;
 
-// A machine at power-up, over this store and this port card, with its run key: all zero, stopped, at an
-// instruction's start. Store and card are only looked at; the calls that follow are made with them.
+// A machine at power-up, wired to this store and this port card, with its run key: all zero, stopped, at an
+// instruction's start. The bus is only looked at; the calls that follow are made with it.
 // Every tick of the machine keeps the laws of a tick, and every instruction lasts its table states and its waits.
 // In every history of calls from here on the two engines agree, the ticks add up, and two machines that are fed
 // the same come to the same.
-pub fn power<S: Store, C: PortCard>(store: &S, card: &C) -> (Machine, RunKey)
-    ensures machine { situation_of result.0 (S.cells store.now) (C.rules card.now) (C.state card.now) ≡ powered_up (S.cells store.now) (C.rules card.now) (C.state card.now) }
-    ensures history { History (powered_place (S.cells store.now) (C.rules card.now) (C.state card.now)) [] (situation_of result.0 (S.cells store.now) (C.rules card.now) (C.state card.now)) run }
-    ensures engines_agree { EnginesAgree (powered_place (S.cells store.now) (C.rules card.now) (C.state card.now)) }
-    ensures ticks_add_up { TicksAddUp (powered_place (S.cells store.now) (C.rules card.now) (C.state card.now)) }
-    ensures machines_agree { MachinesAgree (powered_place (S.cells store.now) (C.rules card.now) (C.state card.now)) }
-    ensures lawful { LawfulTicks C.State }
+pub fn power<B: Wired>(bus: &B) -> (Machine, RunKey)
+    ensures machine { situation_of result.0 (B.wiring bus.now) ≡ powered_up (B.wiring bus.now) }
+    ensures history { History (powered_place (B.wiring bus.now)) [] (situation_of result.0 (B.wiring bus.now)) run }
+    ensures engines_agree { EnginesAgree (powered_place (B.wiring bus.now)) }
+    ensures ticks_add_up { TicksAddUp (powered_place (B.wiring bus.now)) }
+    ensures machines_agree { MachinesAgree (powered_place (B.wiring bus.now)) }
+    ensures lawful { LawfulTicks B.State }
     ensures zero_at_a_start { ZeroAtAStart }
-    ensures lasting { LastsItsTableStates C.State }
+    ensures lasting { LastsItsTableStates B.State }
 {
-    keep_the_laws(store, card);
+    keep_the_laws(bus);
     (
         Machine {
             processor: Processor::new(),
@@ -39,12 +39,12 @@ pub fn power<S: Store, C: PortCard>(store: &S, card: &C) -> (Machine, RunKey)
 }
 
 // The proof of the laws. It does nothing.
-fn keep_the_laws<S: Store, C: PortCard>(store: &S, card: &C)
-    ensures history { History (powered_place (S.cells store.now) (C.rules card.now) (C.state card.now)) [] (powered_up (S.cells store.now) (C.rules card.now) (C.state card.now)) run }
-    ensures engines_agree { EnginesAgree (powered_place (S.cells store.now) (C.rules card.now) (C.state card.now)) }
-    ensures ticks_add_up { TicksAddUp (powered_place (S.cells store.now) (C.rules card.now) (C.state card.now)) }
-    ensures machines_agree { MachinesAgree (powered_place (S.cells store.now) (C.rules card.now) (C.state card.now)) }
-    ensures lawful { LawfulTicks C.State }
+fn keep_the_laws<B: Wired>(bus: &B)
+    ensures history { History (powered_place (B.wiring bus.now)) [] (powered_up (B.wiring bus.now)) run }
+    ensures engines_agree { EnginesAgree (powered_place (B.wiring bus.now)) }
+    ensures ticks_add_up { TicksAddUp (powered_place (B.wiring bus.now)) }
+    ensures machines_agree { MachinesAgree (powered_place (B.wiring bus.now)) }
+    ensures lawful { LawfulTicks B.State }
     ensures zero_at_a_start { ZeroAtAStart }
-    ensures lasting { LastsItsTableStates C.State }
+    ensures lasting { LastsItsTableStates B.State }
 {}

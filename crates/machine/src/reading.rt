@@ -4,7 +4,7 @@ ghost use Rattle.states.specs.Sequencing.{states_in_hand};
 use crate::machines::Machine;
 use cpu::Processor;
 use isa::Cycle;
-use states::{InHand, Phase, Underway};
+use states::{InHand, Underway};
 
 impl Machine {
     // What the processor holds. It is a copy: nothing done to it reaches the machine.
@@ -37,12 +37,5 @@ fn states_before(work: &Underway) -> u8
         Cycle::Second => first,
         Cycle::Third => first + second,
     };
-    let in_this_cycle = match work.next {
-        Phase::T1 => 0,
-        Phase::T2 => 1,
-        Phase::T3 => 2,
-        Phase::T4 => 3,
-        Phase::T5 => 4,
-    };
-    in_cycles + in_this_cycle
+    in_cycles + work.next as u8
 }

@@ -13,7 +13,7 @@ use crate::keys::RunKey;
 use crate::machines::Machine;
 use crate::sequencing::what_follows;
 use crate::transfers::carry_out;
-use bus::{PortCard, Store};
+use bus::{Bus, MemoryBus, Wired};
 use cpu::Fault;
 use isa::{Cycle, CycleKind, Instruction, Transfer, decode};
 use states::{Following, InHand, Levels, Opening, Phase, State, Ticked, Underway};
@@ -21,48 +21,37 @@ use states::{Following, InHand, Levels, Opening, Phase, State, Ticked, Underway}
 impl Machine {
     // One state, decided by how far the machine is in an instruction and by the levels. A refused tick leaves
     // machine, cells and card as they were, and so does a WAIT.
-    pub fn tick<S: Store, C: PortCard>(
+    pub fn tick<B: Bus>(
         &mut self,
         _key: &RunKey,
         levels: Levels,
-        store: &mut S,
-        card: &mut C,
+        bus: &mut B,
     ) -> Result<Ticked, Fault>
-        ensures outcome { ticked levels (situation_of self.old (S.cells store.old) (C.rules card.old) (C.state card.old)) ≡ record { answer = result; after = situation_of self.new (S.cells store.new) (C.rules card.new) (C.state card.new) } }
-        ensures used { Use (situation_of self.old (S.cells store.old) (C.rules card.old) (C.state card.old)) run (Ticks levels result) (situation_of self.new (S.cells store.new) (C.rules card.new) (C.state card.new)) run }
-        ensures store_frame { S.frame store.new ≡ S.frame store.old }
-        ensures card_frame { C.frame card.new ≡ C.frame card.old }
+        ensures outcome { ticked levels (situation_of self.old (B.wiring bus.old)) ≡ record { answer = result; after = situation_of self.new (B.wiring bus.new) } }
+        ensures used { Use (situation_of self.old (B.wiring bus.old)) run (Ticks levels result) (situation_of self.new (B.wiring bus.new)) run }
+        ensures frame_kept { B.frame bus.new ≡ B.frame bus.old }
     {
-        count_as_call(card);
+        count_as_call(bus);
         match (self.hand, levels.ready, levels.int) {
             (InHand::Start, _, int) => Ok(self.begin(int)),
             (InHand::Opening(opening), _, _) => Ok(self.open(opening)),
             (InHand::Opened(_), false, _) => Ok(in_cycle_one(State::Wait)),
-            (InHand::Opened(opening), true, _) => self.take_first_byte(
-                opening, levels.jam, store, card,
-            ),
-            (InHand::Underway(work), ready, _) => self.go_on(work, ready, store, card),
+            (InHand::Opened(opening), true, _) => self.take_first_byte(opening, levels.jam, bus),
+            (InHand::Underway(work), ready, _) => self.go_on(work, ready, bus),
         }
     }
 
     // The next state of an instruction under way.
-    fn go_on<S: Store, C: PortCard>(
-        &mut self,
-        work: Underway,
-        ready: bool,
-        store: &mut S,
-        card: &mut C,
-    ) -> Result<Ticked, Fault>
+    fn go_on<B: Bus>(&mut self, work: Underway, ready: bool, bus: &mut B) -> Result<Ticked, Fault>
         requires { self.old.hand ≡ InHand.Underway work }
-        ensures outcome { goes work.next ready work (place_of self.old.processor (S.cells store.old) (C.rules card.old) (C.state card.old)) ≡ record { answer = result; after = situation_of self.new (S.cells store.new) (C.rules card.new) (C.state card.new) } }
-        ensures store_frame { S.frame store.new ≡ S.frame store.old }
-        ensures card_frame { C.frame card.new ≡ C.frame card.old }
+        ensures outcome { goes work.next ready work (place_of self.old.processor (B.wiring bus.old)) ≡ record { answer = result; after = situation_of self.new (B.wiring bus.new) } }
+        ensures frame_kept { B.frame bus.new ≡ B.frame bus.old }
     {
         match (work.next, ready) {
             (Phase::T1, _) => Ok(self.proceed(State::T1, work)),
             (Phase::T2, _) => Ok(self.address(work)),
             (Phase::T3, false) => Ok(tell(&work, State::Wait, None)),
-            (Phase::T3, true) => self.transfer(work, store, card),
+            (Phase::T3, true) => self.transfer(work, bus),
             (Phase::T4, _) => Ok(self.proceed(fourth_state(work.instruction), work)),
             (Phase::T5, _) => Ok(self.proceed(State::T5, work)),
         }
@@ -146,25 +135,22 @@ impl Machine {
 
 impl Machine {
     // T3 of cycle one: the first byte is taken.
-    fn take_first_byte<S: Store, C: PortCard>(
+    fn take_first_byte<B: MemoryBus>(
         &mut self,
         opening: Opening,
         jam: u8,
-        store: &mut S,
-        card: &C,
+        bus: &mut B,
     ) -> Result<Ticked, Fault>
         requires { self.old.hand ≡ InHand.Opened opening }
-        ensures outcome { opened true jam opening (place_of self.old.processor (S.cells store.old) (C.rules card.now) (C.state card.now)) ≡ record { answer = result; after = situation_of self.new (S.cells store.new) (C.rules card.now) (C.state card.now) } }
-        ensures frame { S.frame store.new ≡ S.frame store.old }
+        ensures outcome { opened true jam opening (place_of self.old.processor (B.wiring bus.old)) ≡ record { answer = result; after = situation_of self.new (B.wiring bus.new) } }
+        ensures frame_kept { B.frame bus.new ≡ B.frame bus.old }
     {
         let byte = if opening.jammed {
             jam
         } else {
-            store.read(opening.start)
+            bus.read(opening.start)
         };
-        let Some(instruction) = decode(byte) else {
-            return Err(Fault::in_decoder(opening.start));
-        };
+        let instruction = decode(byte).ok_or(Fault::in_decoder(opening.start))?;
         let taken = instruction.taken(&self.processor.flags);
         let work = Underway {
             instruction,
@@ -180,34 +166,21 @@ impl Machine {
     }
 
     // T3 of a later cycle: its one transfer.
-    fn transfer<S: Store, C: PortCard>(
-        &mut self,
-        work: Underway,
-        store: &mut S,
-        card: &mut C,
-    ) -> Result<Ticked, Fault>
+    fn transfer<B: Bus>(&mut self, work: Underway, bus: &mut B) -> Result<Ticked, Fault>
         requires { (self.old.hand ≡ InHand.Underway work) × (work.next ≡ Phase.T3) }
-        ensures outcome { transfers true work (place_of self.old.processor (S.cells store.old) (C.rules card.old) (C.state card.old)) ≡ record { answer = result; after = situation_of self.new (S.cells store.new) (C.rules card.new) (C.state card.new) } }
-        ensures store_frame { S.frame store.new ≡ S.frame store.old }
-        ensures card_frame { C.frame card.new ≡ C.frame card.old }
+        ensures outcome { transfers true work (place_of self.old.processor (B.wiring bus.old)) ≡ record { answer = result; after = situation_of self.new (B.wiring bus.new) } }
+        ensures frame_kept { B.frame bus.new ≡ B.frame bus.old }
     {
         let transfer = work.instruction.transfer(work.cycle);
-        let answer = carry_out(
-            transfer,
-            work.address,
-            work.low,
-            &self.processor,
-            store,
-            card,
-        );
+        let answer = carry_out(transfer, work.address, work.low, &self.processor, bus);
         let byte = Fault::place(answer, work.start, work.cycle.number())?;
         Ok(self.proceed(State::T3, with_byte(work, byte)))
     }
 }
 
 // The proof that a tick is a call of a history. It does nothing.
-fn count_as_call<C: PortCard>(_card: &C)
-    ensures { TicksAreCalls C.State }
+fn count_as_call<B: Wired>(_bus: &B)
+    ensures { TicksAreCalls B.State }
 {}
 
 // The answer of a state of it.

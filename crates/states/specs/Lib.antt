@@ -4,4 +4,5 @@ pub mod States
 pub mod Transfers
 pub mod Ticks
 pub mod TickLaws
+pub mod Tallies
 pub mod WholeInstruction

@@ -1,7 +1,7 @@
 use isa::{Cycle, Instruction};
 
 // The state of a cycle that comes next.
-#[derive(Clone, Copy)]
+#[derive(Clone, Copy, PartialEq, Eq, Debug)]
 pub enum Phase {
     T1,
     T2,
@@ -11,7 +11,7 @@ pub enum Phase {
 }
 
 // An instruction whose first byte is still to come.
-#[derive(Clone, Copy)]
+#[derive(Clone, Copy, PartialEq, Eq, Debug)]
 pub struct Opening {
     // T1I began it: its first byte is the jam byte, and the program counter stays.
     pub jammed: bool,
@@ -20,7 +20,7 @@ pub struct Opening {
 }
 
 // An instruction whose first byte is taken.
-#[derive(Clone, Copy)]
+#[derive(Clone, Copy, PartialEq, Eq, Debug)]
 pub struct Underway {
     pub instruction: Instruction,
     // The program counter at its start.
@@ -37,7 +37,7 @@ pub struct Underway {
 }
 
 // How far a machine is in an instruction.
-#[derive(Clone, Copy)]
+#[derive(Clone, Copy, PartialEq, Eq, Debug)]
 pub enum InHand {
     // At an instruction's start.
     Start,

@@ -3,8 +3,10 @@
 
 mod following;
 mod in_hand;
+mod tallies;
 mod ticks;
 
 pub use following::Following;
 pub use in_hand::{InHand, Opening, Phase, Underway};
+pub use tallies::Tally;
 pub use ticks::{Levels, State, Ticked};

@@ -12,8 +12,6 @@ use Rattle.cpu.specs.Processor.{pc_in}
 use Rattle.cpu.specs.Place.{Place}
 use Rattle.stepper.specs.declared.feeds.Feed.{Feed}
 use Rattle.stepper.specs.declared.feeds.Feed.TheVariants.{Own, Jam}
-use Rattle.stepper.specs.declared.feeds.Stepped.{Stepped}
-use Rattle.stepper.specs.declared.feeds.Stepped.TheVariants.{Stopped, Done}
 use Rattle.stepper.specs.Instructions.{Performed, done, doing, fetched, target_next, jumping, calling, returning, inputs, outputs, performs}
 use Rattle.stepper.specs.Steps.{first_byte, opened, carried_out, settled, taken_from}
 use Rattle.stepper.specs.StepLaws.{DoneBy, Awake, Lawful, LawfulSteps}
@@ -70,7 +68,7 @@ owed pc (Input m) p = by_input pc m p (p.rules.input p.state m p.processor.regis
 owed pc (Output m) p = by_output pc m p (p.rules.output p.state m p.processor.registers.a)
 owed pc Halt p = record { states_are = refl; ring = refl; carry = λ c. absurd c; rules = refl }
 
-states_of_lem : (a b : ℕ) → ◌≡◌ {A = Result Stepped Fault} (Ok (Done a)) (Ok (Done b)) → a ≡ b
+states_of_lem : (a b : ℕ) → ◌≡◌ {A = Result (Option ℕ) Fault} (Ok (Some a)) (Ok (Some b)) → a ≡ b
 states_of_lem a b e = cc
 
 -- A step that is to do something is no own step of a stopped processor.
@@ -104,7 +102,7 @@ taken_lawful feed p None d awake = record {
 }
 
 own_lawful : {S : Type 0} (p : Place S) (stopped : Bool) → p.processor.stopped ≡ stopped →
-    Lawful Own p (cond stopped (record { answer = Ok Stopped; after = p }) (taken_from Own p))
+    Lawful Own p (cond stopped (record { answer = Ok None; after = p }) (taken_from Own p))
 own_lawful p true s = record {
   refuses = λ f z. refl;
   stays_stopped = λ z t. (refl, refl);

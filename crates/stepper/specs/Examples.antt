@@ -1,5 +1,5 @@
 -- Worked examples of a step: what stands before it, and all that stands after it.
-use Rattle.std.specs.Prelude.{◌≡◌, ℕ, zero, suc, ◌+◌, ◌-◌, ◌%◌, Bool, true, false, List, [], ◌∷◌, map, Ok, slice_index, slice_set}
+use Rattle.std.specs.Prelude.{◌≡◌, ℕ, zero, suc, ◌+◌, ◌-◌, ◌%◌, Bool, true, false, List, [], ◌∷◌, map, Ok, slice_index, slice_set, Some}
 use Rattle.isa.specs.declared.register_file.Register.{Register}
 use Rattle.isa.specs.declared.register_file.Register.TheVariants.{A, B}
 use Rattle.isa.specs.RegisterFile.{replaced}
@@ -9,7 +9,6 @@ use Rattle.cpu.specs.Processor.{View, powered, with_registers, with_flags, with_
 use Rattle.cpu.specs.Place.{Place}
 use Rattle.stepper.specs.declared.feeds.Feed.{Feed}
 use Rattle.stepper.specs.declared.feeds.Feed.TheVariants.{Own, Jam}
-use Rattle.stepper.specs.declared.feeds.Stepped.TheVariants.{Done}
 use Rattle.stepper.specs.Steps.{Outcome, stepped}
 
 -- A processor that is not stopped, all zero.
@@ -143,7 +142,7 @@ abbrev pub outcome : {S : Type 0} → Rules S → S → Example → Outcome S
 outcome rules state e = stepped e.feed (placed rules state e e.before)
 
 abbrev pub expected : {S : Type 0} → Rules S → S → Example → Outcome S
-expected rules state e = record { answer = Ok (Done e.states); after = placed rules state e e.after }
+expected rules state e = record { answer = Ok (Some e.states); after = placed rules state e e.after }
 
 -- Each example comes to what it must, whatever the port card.
 abbrev pub ExamplesHold : Type 0 → Type 0

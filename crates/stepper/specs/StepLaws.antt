@@ -13,7 +13,6 @@ use Rattle.cpu.specs.Faults.{decoder_fault}
 use Rattle.cpu.specs.Place.{Place}
 use Rattle.stepper.specs.declared.feeds.Feed.{Feed}
 use Rattle.stepper.specs.declared.feeds.Feed.TheVariants.{Own, Jam}
-use Rattle.stepper.specs.declared.feeds.Stepped.TheVariants.{Stopped, Done}
 use Rattle.stepper.specs.Instructions.{target_next}
 use Rattle.stepper.specs.Steps.{Outcome, first_byte, opened, stepped}
 
@@ -99,11 +98,11 @@ pub record Lawful {S : Type 0} (feed : Feed) (p : Place S) (o : Outcome S) : Typ
   -- A refused step leaves all as it was.
   pub refuses : (f : Fault) → o.answer ≡ Err f → o.after ≡ p
   -- So does an own step of a stopped processor.
-  pub stays_stopped : feed ≡ Own → p.processor.stopped ≡ true → (o.answer ≡ Ok Stopped) × (o.after ≡ p)
+  pub stays_stopped : feed ≡ Own → p.processor.stopped ≡ true → (o.answer ≡ Ok None) × (o.after ≡ p)
   -- A byte of no instruction is refused by the decoder.
   pub undefined : Awake feed p → decoded (first_byte feed p) ≡ None → o.answer ≡ Err (decoder_fault (pc_in p.processor))
   -- A step carried out does the instruction of its first byte.
-  pub is_carried_out : (states : ℕ) → o.answer ≡ Ok (Done states) →
+  pub is_carried_out : (states : ℕ) → o.answer ≡ Ok (Some states) →
       (i : Instruction) × (decoded (first_byte feed p) ≡ Some i) × DoneBy i (opened feed p) o.after states
 
 -- Every step keeps the laws, for each card state.

@@ -8,8 +8,6 @@ use Rattle.cpu.specs.Faults.{decoder_fault}
 use Rattle.cpu.specs.Place.{Place, with_processor}
 use Rattle.stepper.specs.declared.feeds.Feed.{Feed}
 use Rattle.stepper.specs.declared.feeds.Feed.TheVariants.{Own, Jam}
-use Rattle.stepper.specs.declared.feeds.Stepped.{Stepped}
-use Rattle.stepper.specs.declared.feeds.Stepped.TheVariants.{Stopped, Done}
 use Rattle.stepper.specs.Instructions.{Performed, next_byte, fetched, performs}
 
 -- The first byte, and the place once it is taken: an own one is read at the program counter, which moves on by one; a jam
@@ -27,14 +25,15 @@ abbrev pub carried_out : {S : Type 0} → ℕ → Option Instruction → Place S
 carried_out pc (Some i) p = performs pc i p
 carried_out pc None p = Err (decoder_fault pc)
 
--- What a step answers, and the place after it.
+-- What a step answers, and the place after it. It answers the states of the instruction carried out, and none where an own
+-- step finds the processor stopped.
 pub record Outcome (S : Type 0) : Type 0 where
-  pub answer : Result Stepped Fault
+  pub answer : Result (Option ℕ) Fault
   pub after : Place S
 
 -- A refused step leaves the place as it was.
 abbrev pub settled : {S : Type 0} → Place S → Result (Performed S) Fault → Outcome S
-settled p (Ok performed) = record { answer = Ok (Done performed.states); after = performed.place }
+settled p (Ok performed) = record { answer = Ok (Some performed.states); after = performed.place }
 settled p (Err fault) = record { answer = Err fault; after = p }
 
 abbrev pub taken_from : {S : Type 0} → Feed → Place S → Outcome S
@@ -42,7 +41,7 @@ taken_from f p = settled p (carried_out (pc_in p.processor) (decoded (first_byte
 
 -- An own step of a stopped processor does nothing.
 abbrev pub stepped : {S : Type 0} → Feed → Place S → Outcome S
-stepped Own p = cond p.processor.stopped (record { answer = Ok Stopped; after = p }) (taken_from Own p)
+stepped Own p = cond p.processor.stopped (record { answer = Ok None; after = p }) (taken_from Own p)
 stepped (Jam byte) p = taken_from (Jam byte) p
 
 -- What the code of an instruction owes to its definition: the place and states of one carried out, or a fault and store and

@@ -6,5 +6,5 @@ mod fetching;
 mod performing;
 mod stepping;
 
-pub use feeds::{Feed, Stepped};
+pub use feeds::Feed;
 pub use stepping::step;

@@ -6,5 +6,5 @@ returns g c = record {
   answer = c.write.ensures.answer;
   after = c.write.ensures.after;
   frame_kept = c.write.ensures.frame_kept;
-  used = deposited c.args.self.now _ _ _ _ _ _ _ c.write.ensures.answer c.write.ensures.after;
+  used = deposited c.args.self.now _ _ _ _ _ c.write.ensures.answer c.write.ensures.after;
 }
