@@ -1,5 +1,5 @@
 -- A run extends every history of the situation that it was made in, by its ticks.
-use Rattle.std.proofs.Common.{◌≡◌, ℕ, List, [], ◌∷◌, Ok, Err, Option, Result, refl, subst}
+use Rattle.std.proofs.Common.{◌≡◌, List, [], ◌∷◌, Ok, Err, Option, Result, refl, subst}
 use Rattle.cpu.specs.declared.faults.Fault.{Fault}
 use Rattle.cpu.specs.Place.{Place}
 use Rattle.states.specs.declared.ticks.Levels.{Levels}
@@ -7,12 +7,10 @@ use Rattle.states.specs.declared.ticks.Ticked.{Ticked}
 use Rattle.states.specs.Situation.{Situation}
 use Rattle.states.specs.Ticks.{ticked}
 use Rattle.agreement.specs.Calls.{Event, tick, run, ticks, History, then}
-use Rattle.runs.specs.declared.refusals.ScheduleRefusal.{ScheduleRefusal}
 use Rattle.runs.specs.declared.outcomes.RunFault.{RunFault}
-use Rattle.runs.specs.declared.tallies.Tally.{Tally}
-use Rattle.runs.specs.Schedules.{Judgement, levels_of}
+use Rattle.states.specs.declared.tallies.Tally.{Tally}
 use Rattle.runs.specs.Runs.{Course, following, ran_over}
-use Rattle.runs.specs.Histories.{unless_refused, and_ticks, levels_made, Extends}
+use Rattle.runs.specs.Histories.{unless_refused, and_ticks, Extends, RefusedExtends}
 
 -- One tick, and the rest where it is accepted.
 goes_on : {S : Type 0} (l : Levels) (ls : List Levels) (s after : Situation S) (answer : Result Ticked Fault) (start : Place S) (calls : List Event) →
@@ -30,12 +28,10 @@ none : {S : Type 0} (s : Situation S) → Extends [] s s
 unfolding and_ticks
 none s start calls h = h
 
-pub refused_extends : {S : Type 0} (j : Judgement) (refusal : ScheduleRefusal) (bytes : List ℕ) (s : Situation S) →
-    j ≡ Err refusal → Extends (levels_made j bytes) s s
-refused_extends j refusal bytes s is = rw is (none s)
+pub refused_extends : (S : Type 0) → RefusedExtends S
+refused_extends S bytes refusal s is = rw is (none s)
 
-pub made_extends : {S : Type 0} (j : Judgement) (good : Unit {0}) (bytes : List ℕ) (s after : Situation S) (t : Tally) (fault : Option RunFault) →
-    j ≡ Ok good → ran_over (levels_of bytes) s ≡ record { tally = t; fault = fault; after = after } → Extends (levels_made j bytes) s after
-made_extends {S} j good bytes s after t fault is course =
-    let E : Course S → Type 0 = λ o. Extends (levels_of bytes) s o.after in
-    rw is (subst E course (extended (levels_of bytes) s))
+pub made_extends : {S : Type 0} (ls : List Levels) (s after : Situation S) (t : Tally) (fault : Option RunFault) →
+    ran_over ls s ≡ record { tally = t; fault = fault; after = after } → Extends ls s after
+made_extends {S} ls s after t fault course =
+    subst (λ (o : Course S). Extends ls s o.after) course (extended ls s)

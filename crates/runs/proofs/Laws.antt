@@ -9,8 +9,8 @@ use Rattle.states.specs.Ticks.{Outcome, ticked}
 use Rattle.states.specs.TickLaws.{Lawful}
 use Rattle.states.proofs.Lawful.{lawful}
 use Rattle.runs.specs.declared.outcomes.RunFault.{RunFault}
-use Rattle.runs.specs.declared.tallies.Tally.{Tally}
-use Rattle.runs.specs.Tallies.{counted}
+use Rattle.states.specs.declared.tallies.Tally.{Tally}
+use Rattle.states.specs.Tallies.{counted}
 use Rattle.runs.specs.Runs.{Course, later, before, following, ran_over, EndsAtTick, onward, OneByOne}
 use Rattle.runs.proofs.Courses.{before_before, before_none}
 

@@ -1,5 +1,6 @@
 -- A schedule, tick by tick: what is left of it begins with the two bytes of the next tick.
-use Rattle.std.proofs.Common.{◌≡◌, ℕ, ◌+◌, ◌*◌, ◌/◌, ◌<◌, ◌≤◌, true, false, cond, List, [], ◌∷◌, length, get_or, drop, Ok, Err, sym, refl, ap, ◌∙◌, arith}
+use Rattle.std.proofs.Common.{◌≡◌, ℕ, ◌+◌, ◌-◌, ◌*◌, ◌/◌, ◌<◌, ◌≤◌, true, false, cond, List, [], ◌∷◌, ◌++◌, length, get_or, slice_index, take, drop, Ok, Err, sym, refl, ap, ◌∙◌, arith}
+use Rattle.std.proofs.Math.Seq.{take-length}
 use Rattle.std.proofs.lemmas.List.{drop_more, length-drop}
 use Rattle.runs.specs.declared.refusals.ScheduleRefusal.TheVariants.{OtherBits}
 use Rattle.runs.specs.Schedules.{levels_at, levels_of, other_bits, bits_judged}
@@ -20,7 +21,17 @@ pub levels_more : (bytes : List ℕ) (i : ℕ) → i < length bytes / 2 →
 unfolding levels_of
 levels_more bytes i h = ap levels_of (two_more bytes i h)
 
-levels_none : (bytes : List ℕ) → length bytes < 2 → levels_of bytes ≡ []
+-- Two bytes or more begin with those of the next tick.
+pub levels_next : (bytes : List ℕ) → 2 ≤ length bytes →
+    levels_of bytes ≡ levels_at (slice_index bytes 0) (slice_index bytes 1) ∷ levels_of (take (length bytes - 2) (drop 2 bytes))
+unfolding levels_of
+levels_next [] h = absurd (omega arith)
+levels_next (bits ∷ []) h = absurd (omega arith)
+levels_next (bits ∷ (jam ∷ rest)) h =
+    let n : length (bits ∷ (jam ∷ rest)) - 2 ≡ length rest = omega arith in
+    ap (λ r. levels_at bits jam ∷ levels_of r) (sym (rw n (take-length rest)))
+
+pub levels_none : (bytes : List ℕ) → length bytes < 2 → levels_of bytes ≡ []
 unfolding levels_of
 levels_none [] h = refl
 levels_none (bits ∷ []) h = refl
@@ -36,29 +47,27 @@ levels_count [] = refl
 levels_count (bits ∷ []) = refl
 levels_count (bits ∷ (jam ∷ rest)) = let e = levels_count rest in omega arith
 
-bits_next : (bytes : List ℕ) (i : ℕ) → i < length bytes / 2 →
-    bits_judged i (drop (2 * i) bytes) ≡ cond (other_bits (get_or bytes (2 * i) 0)) (Err (OtherBits i)) (bits_judged (i + 1) (drop (2 * (i + 1)) bytes))
+bits_next : (i : ℕ) (all pair rest : List ℕ) → all ≡ pair ++ rest → length pair ≡ 2 →
+    bits_judged i all ≡ cond (other_bits (slice_index pair 0)) (Err (OtherBits i)) (bits_judged (i + 1) rest)
 unfolding bits_judged
-bits_next bytes i h = ap (bits_judged i) (two_more bytes i h)
+bits_next i all [] rest e two = absurd (omega arith)
+bits_next i all (bits ∷ []) rest e two = absurd (omega arith)
+bits_next i all (bits ∷ (jam ∷ [])) rest e two = ap (bits_judged i) e
+bits_next i all (bits ∷ (jam ∷ (more ∷ others))) rest e two = absurd (omega arith)
 
 -- The next tick has other bits.
-pub bits_bad : (bytes : List ℕ) (i : ℕ) → i < length bytes / 2 → true ≡ other_bits (get_or bytes (2 * i) 0) →
-    bits_judged i (drop (2 * i) bytes) ≡ Err (OtherBits i)
-bits_bad bytes i h bad =
-    bits_next bytes i h ∙ ap (λ b. cond b (Err (OtherBits i)) (bits_judged (i + 1) (drop (2 * (i + 1)) bytes))) (sym bad)
+pub bits_bad : (i : ℕ) (all pair rest : List ℕ) → all ≡ pair ++ rest → length pair ≡ 2 → true ≡ other_bits (slice_index pair 0) →
+    bits_judged i all ≡ Err (OtherBits i)
+bits_bad i all pair rest e two bad = bits_next i all pair rest e two ∙ rw (← bad)
 
 -- The next tick is good.
-pub bits_good : (bytes : List ℕ) (i : ℕ) → i < length bytes / 2 → false ≡ other_bits (get_or bytes (2 * i) 0) →
-    bits_judged i (drop (2 * i) bytes) ≡ bits_judged (i + 1) (drop (2 * (i + 1)) bytes)
-bits_good bytes i h good =
-    bits_next bytes i h ∙ ap (λ b. cond b (Err (OtherBits i)) (bits_judged (i + 1) (drop (2 * (i + 1)) bytes))) (sym good)
+pub bits_good : (i : ℕ) (all pair rest : List ℕ) → all ≡ pair ++ rest → length pair ≡ 2 → false ≡ other_bits (slice_index pair 0) →
+    bits_judged i all ≡ bits_judged (i + 1) rest
+bits_good i all pair rest e two good = bits_next i all pair rest e two ∙ rw (← good)
 
 -- No tick is left.
-bits_none : (i : ℕ) (bytes : List ℕ) → length bytes < 2 → bits_judged i bytes ≡ Ok tt
+pub bits_none : (i : ℕ) (bytes : List ℕ) → length bytes < 2 → bits_judged i bytes ≡ Ok tt
 unfolding bits_judged
 bits_none i [] h = refl
 bits_none i (bits ∷ []) h = refl
 bits_none i (bits ∷ (jam ∷ rest)) h = absurd (omega arith)
-
-pub bits_all : (bytes : List ℕ) (i : ℕ) → length bytes / 2 ≤ i → bits_judged i (drop (2 * i) bytes) ≡ Ok tt
-bits_all bytes i h = bits_none i (drop (2 * i) bytes) (left bytes i h)

@@ -1,5 +1,5 @@
 -- A run as a part of a history: its ticks, one by one.
-use Rattle.std.specs.Prelude.{ℕ, List, [], ◌∷◌, Ok, Err, Result}
+use Rattle.std.specs.Prelude.{◌≡◌, ℕ, List, [], ◌∷◌, Ok, Err, Result}
 use Rattle.cpu.specs.declared.faults.Fault.{Fault}
 use Rattle.cpu.specs.Place.{Place}
 use Rattle.states.specs.declared.ticks.Levels.{Levels}
@@ -7,7 +7,8 @@ use Rattle.states.specs.declared.ticks.Ticked.{Ticked}
 use Rattle.states.specs.Situation.{Situation}
 use Rattle.states.specs.Ticks.{ticked}
 use Rattle.agreement.specs.Calls.{Event, tick, run, History}
-use Rattle.runs.specs.Schedules.{Judgement, levels_of}
+use Rattle.runs.specs.declared.refusals.ScheduleRefusal.{ScheduleRefusal}
+use Rattle.runs.specs.Schedules.{Judgement, judged, levels_of}
 
 -- A tick by its answer, and the calls after it; none comes after a refused one.
 abbrev pub unless_refused : Result Ticked Fault → List Event → List Event → List Event
@@ -29,3 +30,8 @@ levels_made (Ok good) schedule = levels_of schedule
 -- Every history that ends in one situation goes on with a tick for each of the levels, and then ends in the other.
 abbrev pub Extends : {S : Type 0} → List Levels → Situation S → Situation S → Type 0
 Extends {S} ls s t = (start : Place S) (calls : List Event) → History start calls s run → History start (and_ticks ls s calls) t run
+
+-- A refused schedule makes no tick, and leaves every history as it is.
+abbrev pub RefusedExtends : Type 0 → Type 0
+RefusedExtends S =
+    (bytes : List ℕ) (refusal : ScheduleRefusal) (s : Situation S) → judged bytes ≡ Err refusal → Extends (levels_made (judged bytes) bytes) s s

@@ -1,4 +1,4 @@
 pub mod Schedules
-pub mod Tallies
+pub mod Planned
 pub mod Runs
 pub mod Histories

@@ -9,9 +9,9 @@ use Rattle.states.specs.Ticks.{ticked}
 use Rattle.runs.specs.declared.refusals.ScheduleRefusal.{ScheduleRefusal}
 use Rattle.runs.specs.declared.outcomes.RunFault.{RunFault}
 use Rattle.runs.specs.declared.outcomes.Ran.{Ran}
-use Rattle.runs.specs.declared.tallies.Tally.{Tally}
+use Rattle.states.specs.declared.tallies.Tally.{Tally}
 use Rattle.runs.specs.Schedules.{Judgement, judged, levels_of}
-use Rattle.runs.specs.Tallies.{nothing, plus, counted}
+use Rattle.states.specs.Tallies.{nothing, plus, counted}
 
 -- What ticks in a row came to: the tally of the accepted ones, the fault of the refused one, if any, with its index, and
 -- the situation after them.
@@ -24,11 +24,6 @@ pub record Course (S : Type 0) : Type 0 where
 abbrev pub at_tick : ℕ → Result Ticked Fault → Result Ticked RunFault
 at_tick tick (Ok x) = Ok x
 at_tick tick (Err f) = Err (record { fault = f; tick = tick })
-
--- The fault that stopped ticks in a row, if one did.
-abbrev pub fault_of : Result (Unit {0}) RunFault → Option RunFault
-fault_of (Ok done) = None
-fault_of (Err f) = Some f
 
 -- The fault of a tick that so many ticks come before.
 abbrev pub later : ℕ → Option RunFault → Option RunFault
@@ -54,22 +49,15 @@ pub record Outcome (S : Type 0) : Type 0 where
   pub answer : Result Ran ScheduleRefusal
   pub after : Situation S
 
--- The answer of a run that came so, by the states in hand before and after.
-abbrev pub tells : Tally → Option RunFault → ℕ → ℕ → Ran
-tells t fault in_hand_before in_hand_after = record {
-  accepted = t.accepted;
-  instructions = t.instructions;
-  table_states = t.table_states;
-  waits = t.waits;
-  idle = t.idle;
-  in_hand_before = in_hand_before;
-  in_hand_after = in_hand_after;
-  fault = fault;
-}
-
+-- The answer of a run that came so, with the states in hand before and after.
 abbrev pub answered : {S : Type 0} → Situation S → Course S → Outcome S
 answered s o = record {
-  answer = Ok (tells o.tally o.fault (states_in_hand s.hand) (states_in_hand o.after.hand));
+  answer = Ok (record {
+    tally = o.tally;
+    in_hand_before = states_in_hand s.hand;
+    in_hand_after = states_in_hand o.after.hand;
+    fault = o.fault;
+  });
   after = o.after;
 }
 
@@ -85,7 +73,7 @@ ran schedule s = ran_judged (judged schedule) schedule s
 -- Every accepted tick, and every state in hand before, is a table state of an instruction that ended, a wait, an idle
 -- state or a state in hand after.
 abbrev pub AddsUp : Result Ran ScheduleRefusal → Type 0
-AddsUp (Ok r) = r.accepted + r.in_hand_before ≡ r.table_states + r.waits + r.idle + r.in_hand_after
+AddsUp (Ok r) = r.tally.accepted + r.in_hand_before ≡ r.tally.table_states + r.tally.waits + r.tally.idle + r.in_hand_after
 AddsUp (Err refusal) = Unit {0}
 
 -- A run ends with its schedule or at a refused tick, and every tick before that one was accepted.
@@ -94,7 +82,7 @@ EndsAtTick None accepted ticks = accepted ≡ ticks
 EndsAtTick (Some f) accepted ticks = (f.tick ≡ accepted) × (accepted < ticks)
 
 abbrev pub EndsAt : List ℕ → Result Ran ScheduleRefusal → Type 0
-EndsAt schedule (Ok r) = EndsAtTick r.fault r.accepted (length schedule / 2)
+EndsAt schedule (Ok r) = EndsAtTick r.fault r.tally.accepted (length schedule / 2)
 EndsAt schedule (Err refusal) = Unit {0}
 
 -- A course goes on with more ticks, unless a tick of it was refused.

@@ -2,7 +2,7 @@ ghost use Rattle.std.specs.Prelude.{◌≡◌};
 ghost use Rattle.runs.specs.Schedules.{refusal_number};
 
 // Why a schedule is refused.
-#[derive(Clone, Copy)]
+#[derive(Clone, Copy, PartialEq, Eq, Debug)]
 pub enum ScheduleRefusal {
     // Its length is odd, or it has more than 65,536 ticks.
     BadLength,

@@ -1,6 +1,7 @@
 ghost use Rattle.std.specs.Prelude.{◌≡◌, ◌+◌, ◌*◌, ◌/◌, ◌<◌, ◌≤◌, length, slice_index};
 ghost use Rattle.runs.specs.Schedules.{levels_at, length_judged, other_bits, bits_judged, judged};
 
+use crate::planned_ticks::levels;
 use crate::refusals::ScheduleRefusal;
 use machine::Levels;
 
@@ -29,11 +30,12 @@ fn judge_length(bytes: usize) -> Result<(), ScheduleRefusal>
 }
 
 // No first byte has a bit besides READY and INT.
+#[tactic(auto, using(crate::proofs::Pairs::bits_bad, crate::proofs::Pairs::bits_good, crate::proofs::Pairs::bits_none))]
 fn judge_bits(schedule: &[u8]) -> Result<(), ScheduleRefusal>
     ensures { result ≡ bits_judged 0 schedule.now }
 {
-    for tick in 0..schedule.len() / 2 {
-        if has_other_bits(schedule[2 * tick]) {
+    for (tick, pair) in schedule.chunks_exact(2).enumerate() {
+        if has_other_bits(pair[0]) {
             return Err(ScheduleRefusal::OtherBits(tick));
         }
     }
@@ -52,18 +54,8 @@ pub fn levels_at(schedule: &[u8], tick: usize) -> Levels
     ensures within { tick < length schedule.now / 2 → result ≡ levels_at (slice_index schedule.now (2 * tick)) (slice_index schedule.now (2 * tick + 1)) }
     ensures past { length schedule.now / 2 ≤ tick → result ≡ levels_at 0 0 }
 {
-    if tick >= schedule.len() / 2 {
-        return Levels {
-            ready: false,
-            int: false,
-            jam: 0,
-        };
-    }
-    let bits = schedule[2 * tick];
-    let (ready, int) = (bits % 2 == 1, bits / 2 % 2 == 1);
-    Levels {
-        ready,
-        int,
-        jam: schedule[2 * tick + 1],
+    match schedule.chunks_exact(2).nth(tick) {
+        Some([bits, jam]) => levels(*bits, *jam),
+        _ => levels(0, 0),
     }
 }
