@@ -1,14 +1,16 @@
 -- The line that is printed, as the codes of its characters.
-use Rattle.std.specs.Prelude.{ℕ, Bool, cond, List, ◌++◌, codes, decimal}
+use Rattle.std.specs.Prelude.{ℕ, Bool, cond, Result, Ok, Err, List, ◌++◌, codes, decimal}
+use Rattle.cpu.specs.Faults.{cause_number}
 use Rattle.isa.specs.declared.conditions.Flags.{Flags}
 use Rattle.isa.specs.declared.register_file.Registers.{Registers}
 use Rattle.report.specs.Digits.{hex2, hex4}
-use Rattle.report.specs.declared.output.Outcome.{Outcome}
-use Rattle.report.specs.declared.output.Outcome.TheVariants.{Ran, BadTape}
 use Rattle.report.specs.declared.summary.Ending.{Ending}
 use Rattle.report.specs.declared.summary.Ending.TheVariants.{Halted, Spent, Refused}
 use Rattle.report.specs.declared.summary.Report.{Report}
-use Rattle.tape.specs.Refusals.{refusal_number, refusal_place}
+use Rattle.report.specs.declared.readouts.Readout.{Readout}
+use Rattle.states.specs.declared.tallies.Tally.{Tally}
+use Rattle.tape.specs.Refusals.{refusal_text}
+use Rattle.tape.specs.declared.refusals.TapeRefusal.{TapeRefusal}
 
 -- one text after another: `++`, grouped from the right as the pieces of a format are
 infixr 65 ◌⧺◌
@@ -33,20 +35,23 @@ flag_digits f = flag_digit f.carry ⧺ flag_digit f.zero ⧺ flag_digit f.sign �
 abbrev pub ending_text : Ending → List ℕ
 ending_text Halted = codes "halted"
 ending_text Spent = codes "spent"
-ending_text (Refused number) = codes "refused " ⧺ decimal number
+ending_text (Refused cause) = codes "refused " ⧺ decimal (cause_number cause)
+
+-- what a processor shows
+abbrev pub readout_text : Readout → List ℕ
+readout_text r =
+    register_fields r.registers ⧺ codes " F=" ⧺ flag_digits r.flags ⧺ codes " PC=" ⧺ hex4 r.pc ⧺ codes " K=" ⧺ decimal r.k
 
 -- a run's counts: instructions, table states, waits, idle states
-abbrev pub count_fields : Report → List ℕ
-count_fields r =
-    codes "N=" ⧺ decimal r.instructions ⧺ codes " T=" ⧺ decimal r.table_states ⧺ codes " W=" ⧺ decimal r.waits ⧺ codes " I=" ⧺ decimal r.idle
+abbrev pub count_fields : Tally → List ℕ
+count_fields t =
+    codes "N=" ⧺ decimal t.instructions ⧺ codes " T=" ⧺ decimal t.table_states ⧺ codes " W=" ⧺ decimal t.waits ⧺ codes " I=" ⧺ decimal t.idle
 
--- the processor's state at the end of a run, then the counts, then why it stopped
+-- what the processor shows at the end of a run, then the counts, then why it stopped
 abbrev pub report_text : Report → List ℕ
-report_text r =
-    register_fields r.registers ⧺ codes " F=" ⧺ flag_digits r.flags ⧺ codes " PC=" ⧺ hex4 r.pc ⧺ codes " K=" ⧺ decimal r.k
-    ⧺ codes " " ⧺ count_fields r ⧺ codes " " ⧺ ending_text r.ending
+report_text r = readout_text r.readout ⧺ codes " " ⧺ count_fields r.tally ⧺ codes " " ⧺ ending_text r.ending
 
 -- the line of an outcome: a run's report, or the number of the tape's refusal and its place
-abbrev pub line_of : Outcome → List ℕ
-line_of (Ran report) = report_text report
-line_of (BadTape refusal) = codes "tape " ⧺ decimal (refusal_number refusal) ⧺ codes " at " ⧺ decimal (refusal_place refusal)
+abbrev pub line_of : Result Report TapeRefusal → List ℕ
+line_of (Ok report) = report_text report
+line_of (Err refusal) = refusal_text refusal

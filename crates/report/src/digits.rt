@@ -1,54 +1,39 @@
 // Numbers in hexadecimal, with capital digits and a fixed width.
-ghost use Rattle.std.specs.Prelude.{◌≡◌, ◌<◌, [], ◌∷◌, Some};
-ghost use Rattle.report.specs.Digits.{hex_digit, hex2, hex4};
-ghost use Rattle.std.proofs.Math.Utf8.{encode};
+ghost use Rattle.std.specs.Prelude.{Some};
+ghost use Rattle.std.specs.Fmt.{DisplaysOnOk};
+ghost use Rattle.report.specs.Digits.{hex2, hex4};
 
 use std::fmt;
 
-// A byte, shown as two digits.
-#[derive(Clone, Copy)]
+// A byte, shown as two digits. With an address it makes two types and not one with a count of digits: the value of
+// each fills its digits, whereas a count beside the value could be too small for it.
+#[derive(Clone, Copy, PartialEq, Eq, Debug)]
 pub struct Hex2(pub u8);
 
 impl fmt::Display for Hex2 {
     ghost output = { λ byte. Some (hex2 byte.0) };
 
     fn fmt<W: fmt::Write>(&self, f: &mut fmt::Formatter<W>) -> fmt::Result {
-        let high = hex_digit(self.0 / 16);
-        let low = hex_digit(self.0 % 16);
-        write!(f, "{high}{low}")
+        write_byte(f, self.0)
     }
 }
 
 // An address, shown as four digits.
-#[derive(Clone, Copy)]
+#[derive(Clone, Copy, PartialEq, Eq, Debug)]
 pub struct Hex4(pub u16);
 
 impl fmt::Display for Hex4 {
     ghost output = { λ address. Some (hex4 address.0) };
 
     fn fmt<W: fmt::Write>(&self, f: &mut fmt::Formatter<W>) -> fmt::Result {
-        let high = Hex2((self.0 / 256) as u8);
-        let low = Hex2((self.0 % 256) as u8);
-        write!(f, "{high}{low}")
+        let [high, low] = self.0.to_be_bytes();
+        write!(f, "{}{}", Hex2(high), Hex2(low))
     }
 }
 
-// The digit of a value below sixteen.
-fn hex_digit(value: u8) -> char
-    requires { value < 16 }
-    ensures { encode result ≡ hex_digit value ∷ [] }
+// Writes a byte as two digits.
+fn write_byte<W: fmt::Write>(f: &mut fmt::Formatter<W>, byte: u8) -> fmt::Result
+    ensures { DisplaysOnOk W.write_str_gives f.old result (Some (hex2 byte)) f.new }
 {
-    if value < 10 {
-        ascii(b'0' + value)
-    } else {
-        ascii(b'A' + (value - 10))
-    }
-}
-
-// The character of an ASCII code, which as text is that one byte.
-fn ascii(code: u8) -> char
-    requires { code < 128 }
-    ensures { encode result ≡ code ∷ [] }
-{
-    code as char
+    write!(f, "{byte:02X}")
 }

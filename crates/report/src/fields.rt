@@ -1,13 +1,14 @@
 // The registers and the flags, as they stand in the line.
 ghost use Rattle.report.specs.Line.{flag_digit, flag_digits, register_fields};
-ghost use Rattle.std.specs.Prelude.{◌≡◌, Some};
+ghost use Rattle.std.specs.Prelude.{◌≡◌, Some, decimal};
 
 use crate::digits::Hex2;
 use isa::{Flags, Registers};
 use std::fmt;
 
-// The seven registers, each shown under its letter as two digits.
-#[derive(Clone, Copy)]
+// The seven registers, each shown under its letter as two digits. A type of its own, since a crate can give a Display
+// only to its own types.
+#[derive(Clone, Copy, PartialEq, Eq, Debug)]
 pub struct RegisterFields(pub Registers);
 
 impl fmt::Display for RegisterFields {
@@ -29,8 +30,9 @@ impl fmt::Display for RegisterFields {
     }
 }
 
-// The four flags, shown in the order carry, zero, sign, parity, each as 1 where it is set and as 0 where not.
-#[derive(Clone, Copy)]
+// The four flags, shown in the order carry, zero, sign, parity, each as 1 where it is set and as 0 where not. A type of
+// its own, as that of the registers is.
+#[derive(Clone, Copy, PartialEq, Eq, Debug)]
 pub struct FlagDigits(pub Flags);
 
 impl fmt::Display for FlagDigits {
@@ -45,9 +47,10 @@ impl fmt::Display for FlagDigits {
     }
 }
 
-// 1 for a flag that is set, and 0 for one that is not.
-fn flag_digit(is_set: bool) -> &'static str
-    ensures { result.now ≡ flag_digit is_set }
+// 1 for a flag that is set, and 0 for one that is not: a function of its own, whose contract says the digit's text.
+#[tactic(auto, using(crate::proofs::Flags::decimal_flag))]
+fn flag_digit(is_set: bool) -> u8
+    ensures { decimal result ≡ flag_digit is_set }
 {
-    if is_set { "1" } else { "0" }
+    u8::from(is_set)
 }

@@ -2,19 +2,20 @@
 ghost use Rattle.report.specs.Line.{count_fields, ending_text, report_text};
 ghost use Rattle.std.specs.Prelude.{Some};
 
-use crate::digits::Hex4;
-use crate::fields::{FlagDigits, RegisterFields};
-use isa::{Flags, Registers};
+use crate::readouts::Readout;
+use cpu::Cause;
+use states::Tally;
 use std::fmt;
 
-// Why a run stopped: the processor halted, its budget was spent, or it was refused, with the refusal's number.
-#[derive(Clone, Copy)]
+// Why a run stopped: the processor halted, its budget was spent, or it was refused.
+#[derive(Clone, Copy, PartialEq, Eq, Debug)]
 pub enum Ending {
     Halted,
     Spent,
-    Refused(u8),
+    Refused(Cause),
 }
 
+// A refusal is shown by its number.
 impl fmt::Display for Ending {
     ghost output = { λ ending. Some (ending_text ending) };
 
@@ -22,25 +23,16 @@ impl fmt::Display for Ending {
         match *self {
             Ending::Halted => f.write_str("halted"),
             Ending::Spent => f.write_str("spent"),
-            Ending::Refused(number) => write!(f, "refused {number}"),
+            Ending::Refused(cause) => write!(f, "refused {}", cause.number()),
         }
     }
 }
 
-// The processor's state at the end of a run, what the run counted, and why it stopped.
-#[derive(Clone, Copy)]
+// What the processor shows at the end of a run, what the run counted, and why it stopped.
+#[derive(Clone, Copy, PartialEq, Eq, Debug)]
 pub struct Report {
-    pub registers: Registers,
-    pub flags: Flags,
-    pub pc: u16,
-    // The ring number.
-    pub k: u8,
-    // How many have ended.
-    pub instructions: u32,
-    // The states that the instruction table gives, without waits and idle states.
-    pub table_states: u32,
-    pub waits: u32,
-    pub idle: u32,
+    pub readout: Readout,
+    pub tally: Tally,
     pub ending: Ending,
 }
 
@@ -50,30 +42,27 @@ impl fmt::Display for Report {
     fn fmt<W: fmt::Write>(&self, f: &mut fmt::Formatter<W>) -> fmt::Result {
         write!(
             f,
-            "{} F={} PC={} K={} {} {}",
-            RegisterFields(self.registers),
-            FlagDigits(self.flags),
-            Hex4(self.pc),
-            self.k,
-            CountFields(*self),
+            "{} {} {}",
+            self.readout,
+            CountFields(self.tally),
             self.ending
         )
     }
 }
 
-// A report's counts, each under its letter.
-#[derive(Clone, Copy)]
-struct CountFields(Report);
+// The counts of a run, each under its letter; the line leaves out how many ticks were accepted.
+#[derive(Clone, Copy, PartialEq, Eq, Debug)]
+struct CountFields(Tally);
 
 impl fmt::Display for CountFields {
     ghost output = { λ fields. Some (count_fields fields.0) };
 
     fn fmt<W: fmt::Write>(&self, f: &mut fmt::Formatter<W>) -> fmt::Result {
-        let r = self.0;
+        let t = self.0;
         write!(
             f,
             "N={} T={} W={} I={}",
-            r.instructions, r.table_states, r.waits, r.idle
+            t.instructions, t.table_states, t.waits, t.idle
         )
     }
 }

@@ -1,16 +1,13 @@
 -- One turn of a run of steps: enough states are counted, a step goes on, ends a halt, finds the processor stopped, or is
 -- refused.
-use Rattle.std.proofs.Common.{◌≡◌, ℕ, suc, ◌+◌, ◌-◌, ◌<◌, ◌≤◌, Bool, true, false, cond, eqb, Ok, Err, sym, ap, ◌∙◌, arith}
+use Rattle.std.proofs.Common.{◌≡◌, ℕ, suc, ◌+◌, ◌-◌, ◌<◌, ◌≤◌, Bool, true, false, cond, eqb, Some, None, Option, Ok, Err, sym, ap, ◌∙◌, arith}
 use Rattle.std.proofs.lemmas.Bool.{ne_eqb, le-leb, lt-leb}
 use Rattle.cpu.specs.declared.faults.Fault.{Fault}
-use Rattle.cpu.specs.Faults.{cause_number}
 use Rattle.cpu.specs.Place.{Place}
 use Rattle.stepper.specs.declared.feeds.Feed.{Feed}
-use Rattle.stepper.specs.declared.feeds.Stepped.{Stepped}
-use Rattle.stepper.specs.declared.feeds.Stepped.TheVariants.{Stopped, Done}
 use Rattle.stepper.specs.Steps.{Outcome, stepped}
 use Rattle.report.specs.declared.summary.Ending.TheVariants.{Halted, Spent, Refused}
-use Rattle.runner.specs.declared.tallies.Tally.{Tally}
+use Rattle.states.specs.declared.tallies.Tally.{Tally}
 use Rattle.runner.specs.Stepping.{Walked, feed_at, added, ends, steps}
 
 -- What a run comes to, by the outcome of its next step.
@@ -18,10 +15,10 @@ abbrev turn : {S : Type 0} → ℕ → Tally → Outcome S → Walked S
 turn n t o =
     elim o.answer [
       | Ok x ↦ elim x [
-        | Stopped ↦ ends t Halted o.after
-        | Done states ↦ cond o.after.processor.stopped (ends (added t states) Halted o.after) (steps n false (added t states) o.after)
+        | None ↦ ends t Halted o.after
+        | Some states ↦ cond o.after.processor.stopped (ends (added t states) Halted o.after) (steps n false (added t states) o.after)
       ]
-      | Err f ↦ ends t (Refused (cause_number f.cause)) o.after
+      | Err f ↦ ends t (Refused f.cause) o.after
     ]
 
 left : (all i : ℕ) → i < all → all - i ≡ suc (all - (i + 1))
@@ -33,35 +30,35 @@ unfolding steps
 next all i first f t p o h few k e =
     rw (left all i h, lt-leb _ _ few) (ap (λ m. turn (all - (i + 1)) t (stepped m p)) (sym k) ∙ ap (turn (all - (i + 1)) t) e)
 
-done : {S : Type 0} (x : Stepped) (n : ℕ) (after : Place S) → x ≡ Done n →
-    ◌≡◌ {A = Outcome S} (record { answer = Ok x; after = after }) (record { answer = Ok (Done n); after = after })
-done x n after d = ap (λ y. record { answer = Ok y; after = after }) d
-
 later : (i : ℕ) → false ≡ eqb (i + 1) 0
 later i = sym (ne_eqb (i + 1) 0 (λ e. omega arith))
 
-pub goes_on : {S : Type 0} (all i : ℕ) (first : Bool) (f : Feed) (t u : Tally) (p after : Place S) (x : Stepped) (n : ℕ) → i < all →
-    t.table_states < 60000 → f ≡ feed_at first → stepped f p ≡ record { answer = Ok x; after = after } → x ≡ Done n → u ≡ added t n →
+done : {S : Type 0} (x : Option ℕ) (y : Option ℕ) (after : Place S) → x ≡ y →
+    ◌≡◌ {A = Outcome S} (record { answer = Ok x; after = after }) (record { answer = Ok y; after = after })
+done x y after d = ap (λ z. record { answer = Ok z; after = after }) d
+
+pub goes_on : {S : Type 0} (all i : ℕ) (first : Bool) (f : Feed) (t u : Tally) (p after : Place S) (x : Option ℕ) (n : ℕ) → i < all →
+    t.table_states < 60000 → f ≡ feed_at first → stepped f p ≡ record { answer = Ok x; after = after } → x ≡ Some n → u ≡ added t n →
     after.processor.stopped ≡ false → steps (all - i) first t p ≡ steps (all - (i + 1)) (eqb (i + 1) 0) u after
 goes_on all i first f t u p after x n h few v e d c k =
-    next all i first f t p _ h few v (e ∙ done x n after d) ∙
+    next all i first f t p _ h few v (e ∙ done x (Some n) after d) ∙
     (ap (λ b. cond b (ends (added t n) Halted after) (steps (all - (i + 1)) false (added t n) after)) k ∙
     (ap (λ x. steps (all - (i + 1)) false x after) (sym c) ∙ ap (λ b. steps (all - (i + 1)) b u after) (later i)))
 
-pub halt_ends : {S : Type 0} (all i : ℕ) (first : Bool) (f : Feed) (t u : Tally) (p after : Place S) (x : Stepped) (n : ℕ) → i < all →
-    t.table_states < 60000 → f ≡ feed_at first → stepped f p ≡ record { answer = Ok x; after = after } → x ≡ Done n → u ≡ added t n →
+pub halt_ends : {S : Type 0} (all i : ℕ) (first : Bool) (f : Feed) (t u : Tally) (p after : Place S) (x : Option ℕ) (n : ℕ) → i < all →
+    t.table_states < 60000 → f ≡ feed_at first → stepped f p ≡ record { answer = Ok x; after = after } → x ≡ Some n → u ≡ added t n →
     after.processor.stopped ≡ true → steps (all - i) first t p ≡ ends u Halted after
-halt_ends all i first f t u p after x n h few v e d c k = next all i first f t p _ h few v (e ∙ done x n after d) ∙ rw (k, ← c)
+halt_ends all i first f t u p after x n h few v e d c k = next all i first f t p _ h few v (e ∙ done x (Some n) after d) ∙ rw (k, ← c)
 
-pub found_stopped : {S : Type 0} (all i : ℕ) (first : Bool) (f : Feed) (t : Tally) (p after : Place S) (x : Stepped) → i < all →
-    t.table_states < 60000 → f ≡ feed_at first → stepped f p ≡ record { answer = Ok x; after = after } → x ≡ Stopped →
+pub found_stopped : {S : Type 0} (all i : ℕ) (first : Bool) (f : Feed) (t : Tally) (p after : Place S) (x : Option ℕ) → i < all →
+    t.table_states < 60000 → f ≡ feed_at first → stepped f p ≡ record { answer = Ok x; after = after } → x ≡ None →
     steps (all - i) first t p ≡ ends t Halted after
-found_stopped all i first f t p after x h few v e d = next all i first f t p _ h few v (e ∙ ap (λ y. record { answer = Ok y; after = after }) d)
+found_stopped all i first f t p after x h few v e d = next all i first f t p _ h few v (e ∙ done x None after d)
 
-pub refused : {S : Type 0} (all i : ℕ) (first : Bool) (f : Feed) (t : Tally) (p after : Place S) (x : Fault) (number : ℕ) → i < all →
+pub refused : {S : Type 0} (all i : ℕ) (first : Bool) (f : Feed) (t : Tally) (p after : Place S) (x : Fault) → i < all →
     t.table_states < 60000 → f ≡ feed_at first → stepped f p ≡ record { answer = Err x; after = after } →
-    number ≡ cause_number x.cause → steps (all - i) first t p ≡ ends t (Refused number) after
-refused all i first f t p after x number h few v e c = next all i first f t p _ h few v e ∙ rw c
+    steps (all - i) first t p ≡ ends t (Refused x.cause) after
+refused all i first f t p after x h few v e = next all i first f t p _ h few v e
 
 pub enough : {S : Type 0} (all i : ℕ) (first : Bool) (t : Tally) (p : Place S) → i < all → 60000 ≤ t.table_states →
     steps (all - i) first t p ≡ ends t Spent p

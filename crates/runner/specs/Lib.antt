@@ -1,4 +1,4 @@
-pub mod Tallies
+pub mod Halts
 pub mod Running
 pub mod Stepping
 pub mod TapeRun

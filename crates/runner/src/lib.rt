@@ -2,11 +2,9 @@
 #![tactic(auto)]
 
 mod running;
-mod tallies;
 mod tape_runs;
 mod walking;
 
 pub use running::{Finished, run_to_halt};
-pub use tallies::Tally;
 pub use tape_runs::{run_tape, step_tape};
 pub use walking::step_to_halt;

@@ -1,12 +1,13 @@
 ghost use Rattle.std.specs.Prelude.{◌≡◌, ◌≤◌, true};
 ghost use Rattle.machine.specs.Machines.{situation_of};
-ghost use Rattle.runner.specs.Tallies.{nothing};
+ghost use Rattle.states.specs.Tallies.{nothing};
+ghost use Rattle.runner.specs.Halts.{halts};
 ghost use Rattle.runner.specs.Running.{levels_at, runs};
 
-use crate::tallies::{Tally, count, ends_halt};
-use bus::{PortCard, Store};
-use machine::{Levels, Machine, RunKey};
+use bus::Bus;
+use machine::{Machine, RunKey};
 use report::Ending;
+use states::{Levels, State, Tally, Ticked};
 
 // The most ticks that a run takes.
 const TICKS: u32 = 60_000;
@@ -23,59 +24,39 @@ pub struct Finished {
 
 // Ticks with READY high until a halt ends, a tick is refused or 60,000 ticks are spent. INT is high at the
 // first tick only, and jams a restart of cell 0.
-pub fn run_to_halt<S: Store, C: PortCard>(
-    machine: &mut Machine,
-    key: &RunKey,
-    store: &mut S,
-    card: &mut C,
-) -> Finished
-    ensures outcome { runs 60000 true nothing (situation_of machine.old (S.cells store.old) (C.rules card.old) (C.state card.old)) ≡ record { finished = result; after = situation_of machine.new (S.cells store.new) (C.rules card.new) (C.state card.new) } }
-    ensures store_frame { S.frame store.new ≡ S.frame store.old }
-    ensures card_frame { C.frame card.new ≡ C.frame card.old }
+pub fn run_to_halt<B: Bus>(machine: &mut Machine, key: &RunKey, bus: &mut B) -> Finished
+    ensures outcome { runs 60000 true nothing (situation_of machine.old (B.wiring bus.old)) ≡ record { finished = result; after = situation_of machine.new (B.wiring bus.new) } }
+    ensures frame_kept { B.frame bus.new ≡ B.frame bus.old }
 {
-    run_ticks(machine, key, TICKS, store, card)
+    let mut tally = Tally::default();
+    let ending = run_ticks(machine, key, TICKS, bus, &mut tally);
+    Finished { tally, ending }
 }
 
-// The same, with at most so many ticks.
-fn run_ticks<S: Store, C: PortCard>(
+// Counts at most so many ticks, and answers how they ended.
+fn run_ticks<B: Bus>(
     machine: &mut Machine,
     key: &RunKey,
     ticks: u32,
-    store: &mut S,
-    card: &mut C,
-) -> Finished
-    requires { ticks ≤ 60000 }
-    ensures outcome { runs ticks true nothing (situation_of machine.old (S.cells store.old) (C.rules card.old) (C.state card.old)) ≡ record { finished = result; after = situation_of machine.new (S.cells store.new) (C.rules card.new) (C.state card.new) } }
-    ensures store_frame { S.frame store.new ≡ S.frame store.old }
-    ensures card_frame { C.frame card.new ≡ C.frame card.old }
+    bus: &mut B,
+    tally: &mut Tally,
+) -> Ending
+    requires { (ticks ≤ 60000) × (tally.old ≡ nothing) }
+    ensures outcome { runs ticks true nothing (situation_of machine.old (B.wiring bus.old)) ≡ record { finished = record { tally = tally.exit.now; ending = result }; after = situation_of machine.new (B.wiring bus.new) } }
+    ensures frame_kept { B.frame bus.new ≡ B.frame bus.old }
 {
-    let mut tally = Tally {
-        instructions: 0,
-        table_states: 0,
-        waits: 0,
-        idle: 0,
-    };
     for tick in 0..ticks {
-        match machine.tick(key, levels(tick == 0), store, card) {
-            Err(fault) => return Finished {
-                tally,
-                ending: Ending::Refused(fault.cause.number()),
-            },
+        match machine.tick(key, levels(tick == 0), bus) {
+            Err(fault) => return Ending::Refused(fault.cause),
             Ok(ticked) => {
-                tally = count(tally, &ticked);
+                tally.count_tick(&ticked);
                 if ends_halt(&ticked) {
-                    return Finished {
-                        tally,
-                        ending: Ending::Halted,
-                    };
+                    return Ending::Halted;
                 }
             }
         }
     }
-    Finished {
-        tally,
-        ending: Ending::Spent,
-    }
+    Ending::Spent
 }
 
 // The levels of a tick.
@@ -87,4 +68,11 @@ fn levels(first: bool) -> Levels
         int: first,
         jam: RESTART,
     }
+}
+
+// Whether the tick is the last state of a halt.
+fn ends_halt(ticked: &Ticked) -> bool
+    ensures { result ≡ halts ticked.now }
+{
+    ticked.state == State::Stopped && ticked.ended.is_some()
 }

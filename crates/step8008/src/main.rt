@@ -12,10 +12,13 @@ const TAPE: u64 = 60_000;
 // The cells of the store, all RAM.
 const CELLS: usize = 16384;
 
+// The programs read alike and call different engines. What only reads and prints has no contract to share.
 fn main(rt: HostRuntime) -> io::Result<()> {
     let mut tape = Vec::new(rt.alloc());
     let _ = rt.stdin().take(TAPE).read_to_end(&mut tape)?;
     let mut memory = vec![in rt.alloc(); 0u8; CELLS]?;
-    let outcome = step_tape(&tape, &mut memory);
-    println!(rt; "{outcome}")
+    match step_tape(&tape, &mut memory) {
+        Ok(report) => println!(rt; "{report}"),
+        Err(refusal) => println!(rt; "{refusal}"),
+    }
 }

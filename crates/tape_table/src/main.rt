@@ -56,9 +56,5 @@ fn run_row(rt: &HostRuntime, row: &Row<'_>) -> io::Result<bool> {
 fn zero_words(heap: Global, count: usize) -> Result<Vec<u8>, AllocError>
     ensures { IfOk result (λ tape. vec_len tape ≡ count * 10) }
 {
-    let mut tape = Vec::new(heap);
-    for _ in 0..count {
-        tape.extend_from_slice(b"BNNNNNNNNF")?;
-    }
-    Ok(tape)
+    b"BNNNNNNNNF".repeat(heap, count)
 }

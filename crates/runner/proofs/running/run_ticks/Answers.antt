@@ -2,42 +2,24 @@ use Rattle.std.proofs.Common.{sym, ◌∙◌, arith}
 use Rattle.runner.proofs.Turns.{goes_on, halt_ends, refused, spent}
 use Rattle.runner.proofs.running.run_ticks.Goals as goal
 
-pub returns-in-Err : goal.returns-in-Err
-returns-in-Err g c =
-    let tick = c.in-Err.ensures in
-    record {
-      outcome = c.loop-tick.invariant.0 ∙ refused c.args.ticks c.loop-tick.tick _ _ _ _ _ _ _ c.loop-tick-test.true c.levels.ensures tick.outcome c.number.ensures;
-      store_frame = tick.store_frame ∙ c.loop-tick.invariant.5;
-      card_frame = tick.card_frame ∙ c.loop-tick.invariant.6;
-    }
+pub returns-in-Err-clause-outcome : goal.returns-in-Err-clause-outcome
+returns-in-Err-clause-outcome g c =
+    c.loop-tick.invariant.0 ∙ refused c.args.ticks c.loop-tick.tick _ _ _ _ _ _ c.loop-tick-test.true c.levels.ensures c.in-Err.ensures.outcome
 
-pub returns-then-ends_halt : goal.returns-then-ends_halt
-returns-then-ends_halt g c =
-    let tick = c.in-Ok.ensures in
-    record {
-      outcome = c.loop-tick.invariant.0 ∙
-          halt_ends c.args.ticks c.loop-tick.tick _ _ _ _ _ _ _ c.loop-tick-test.true c.levels.ensures tick.outcome c.count-tally.ensures.value (sym c.if-ends_halt.ensures);
-      store_frame = tick.store_frame ∙ c.loop-tick.invariant.5;
-      card_frame = tick.card_frame ∙ c.loop-tick.invariant.6;
-    }
+pub returns-then-ends_halt-clause-outcome : goal.returns-then-ends_halt-clause-outcome
+returns-then-ends_halt-clause-outcome g c =
+    let sum = c.count_tick.ensures.exact c.loop-tick.tick (omega arith) c.loop-tick.invariant.1 in
+    c.loop-tick.invariant.0 ∙
+    halt_ends c.args.ticks c.loop-tick.tick _ _ _ _ _ _ _ c.loop-tick-test.true c.levels.ensures c.in-Ok.ensures.outcome sum.0 (sym c.if-ends_halt.ensures)
 
 pub loop-tick-preserved : goal.loop-tick-preserved
 loop-tick-preserved g c =
-    let tick = c.in-Ok.ensures in
-    let w = c.count-tally.ensures.within in (
+    let sum = c.count_tick.ensures.exact c.loop-tick.tick (omega arith) c.loop-tick.invariant.1 in (
       c.loop-tick.invariant.0 ∙
-          goes_on c.args.ticks c.loop-tick.tick _ _ _ _ _ _ _ c.loop-tick-test.true c.levels.ensures tick.outcome c.count-tally.ensures.value (sym c.if-ends_halt.ensures),
-      omega arith,
-      omega arith,
-      omega arith,
-      omega arith,
-      tick.store_frame ∙ c.loop-tick.invariant.5,
-      tick.card_frame ∙ c.loop-tick.invariant.6,
+          goes_on c.args.ticks c.loop-tick.tick _ _ _ _ _ _ _ c.loop-tick-test.true c.levels.ensures c.in-Ok.ensures.outcome sum.0 (sym c.if-ends_halt.ensures),
+      sum.1,
+      c.in-Ok.ensures.frame_kept ∙ c.loop-tick.invariant.2,
     )
 
-pub returns : goal.returns
-returns g c = record {
-  outcome = c.loop-tick.invariant.0 ∙ spent c.args.ticks c.loop-tick.tick _ _ _ c.loop-tick-test.false;
-  store_frame = c.loop-tick.invariant.5;
-  card_frame = c.loop-tick.invariant.6;
-}
+pub returns-clause-outcome : goal.returns-clause-outcome
+returns-clause-outcome g c = c.loop-tick.invariant.0 ∙ spent c.args.ticks c.loop-tick.tick _ _ _ c.loop-tick-test.false
