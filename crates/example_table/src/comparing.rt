@@ -1,14 +1,14 @@
 ghost use Rattle.std.specs.Prelude.{◌≡◌, true};
 ghost use Rattle.example_table.specs.Comparing.{counted, verdict_text};
 
-use std::io;
+use std::{fmt, io};
 
 // A row of the table: what was expected, and what came.
 #[derive(Clone, Copy)]
-pub(crate) struct Comparison<'a> {
-    pub(crate) name: &'a str,
-    pub(crate) expected: &'a str,
-    pub(crate) came: &'a str,
+struct Comparison<'a> {
+    name: &'a str,
+    expected: &'a str,
+    came: &'a str,
 }
 
 impl Comparison<'_> {
@@ -22,7 +22,7 @@ impl Comparison<'_> {
 }
 
 // How many rows were compared, and how many of them differ.
-#[derive(Clone, Copy)]
+#[derive(Clone, Copy, Default)]
 pub(crate) struct Tally {
     pub(crate) rows: u32,
     pub(crate) different: u32,
@@ -30,7 +30,19 @@ pub(crate) struct Tally {
 
 impl Tally {
     // Prints a row with its verdict, and counts it.
-    pub(crate) fn compare(&mut self, rt: &HostRuntime, row: &Comparison<'_>) -> io::Result<()> {
+    pub(crate) fn compare<T: fmt::Display>(
+        &mut self,
+        rt: &HostRuntime,
+        name: &str,
+        expected: &str,
+        came: &T,
+    ) -> io::Result<()> {
+        let came = format!(in rt.alloc(); "{came}")?;
+        let row = Comparison {
+            name,
+            expected,
+            came: &came,
+        };
         let same = row.is_same();
         self.count(same);
         println!(rt;

@@ -13,10 +13,7 @@ use std::io;
 use trace::compare_trace;
 
 fn main(rt: HostRuntime) -> io::Result<()> {
-    let mut tally = Tally {
-        rows: 0,
-        different: 0,
-    };
+    let mut tally = Tally::default();
     compare_refusals(&rt, &mut tally)?;
     compare_trace(&rt, &mut tally)?;
     println!(rt; "{} of {} rows differ", tally.different, tally.rows)

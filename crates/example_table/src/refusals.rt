@@ -3,16 +3,15 @@
 ghost use Rattle.std.specs.Prelude.{◌≡◌, false};
 ghost use Rattle.bus.specs.Latch.{latches_of, fitted_of, zeroed, all_fitted, marked};
 
-use crate::comparing::{Comparison, Tally};
-use bus::{FlatStore, LatchCard};
+use crate::comparing::Tally;
+use bus::{Board, FlatStore, LatchCard};
 use cpu::{Fault, Layer, Processor};
 use machine::power;
 use report::Hex4;
 use states::Levels;
-use std::alloc::{AllocError, Global};
-use std::io;
+use std::{fmt, io};
 use stepper::{Feed, step};
-use tape::read_tape;
+use tape::{TapeRefusal, read_tape};
 
 #[derive(Clone, Copy)]
 enum Engine {
@@ -62,68 +61,56 @@ const RST_1: u8 = 0x0D;
 // Compares the refusals of both engines, and that of a tape.
 pub(crate) fn compare_refusals(rt: &HostRuntime, tally: &mut Tally) -> io::Result<()> {
     for example in EXAMPLES.iter() {
-        let fault = match example.engine {
-            Engine::Steps => met_by_steps(example.byte),
-            Engine::Ticks => met_by_ticks(example.byte),
+        let met = match example.engine {
+            Engine::Steps => meet(example.byte, by_steps),
+            Engine::Ticks => meet(example.byte, by_ticks),
         };
-        let came = fault_line(rt.alloc(), fault)?;
-        tally.compare(
-            rt,
-            &Comparison {
-                name: example.name,
-                expected: example.expected,
-                came: came.as_str(),
-            },
-        )?;
+        tally.compare(rt, example.name, example.expected, &Met(met))?;
     }
-    let came = tape_line(rt.alloc(), b"BNX")?;
-    tally.compare(
-        rt,
-        &Comparison {
-            name: "the tape BNX",
-            expected: "refusal 7 at place 2",
-            came: came.as_str(),
-        },
-    )
+    let mut buffer = [0u8; 16];
+    let met = read_tape(b"BNX", &mut buffer).err();
+    tally.compare(rt, "the tape BNX", "refusal 7 at place 2", &TapeMet(met))
 }
 
-// What the instruction engine meets in a jammed restart and an own step at the byte.
-fn met_by_steps(byte: u8) -> Option<Fault> {
+// The refusal that an engine meets, over a memory with the byte in cell 8 and a card without input port 1.
+fn meet<E: FnOnce(&mut Board<FlatStore<'_>, LatchCard>) -> Result<(), Fault>>(
+    byte: u8,
+    engine: E,
+) -> Option<Fault>
+    requires { E.IsAlwaysCallable engine }
+{
     let mut memory = [0, 0, 0, 0, 0, 0, 0, 0, byte];
-    let mut store = FlatStore {
-        bytes: &mut memory,
-        fixed: 0,
+    let mut board = Board {
+        store: FlatStore {
+            bytes: &mut memory,
+            fixed: 0,
+        },
+        card: card_without_port_1(),
     };
-    let mut card = card_without_port_1();
+    engine(&mut board).err()
+}
+
+// The instruction engine: a jammed restart, and an own step at the byte.
+fn by_steps(board: &mut Board<FlatStore<'_>, LatchCard>) -> Result<(), Fault> {
     let mut processor = Processor::new();
     for feed in [Feed::Jam(RST_1), Feed::Own] {
-        if let Err(fault) = step(&mut processor, feed, &mut store, &mut card) {
-            return Some(fault);
-        }
+        let _ = step(&mut processor, feed, board)?;
     }
-    None
+    Ok(())
 }
 
-// What the state engine meets in the ticks of the same two instructions: at most 5 and 11.
-fn met_by_ticks(byte: u8) -> Option<Fault> {
-    let mut memory = [0, 0, 0, 0, 0, 0, 0, 0, byte];
-    let mut store = FlatStore {
-        bytes: &mut memory,
-        fixed: 0,
-    };
-    let mut card = card_without_port_1();
-    let (mut machine, key) = power(&store, &card);
+// The state engine: the ticks of the same two instructions, at most 5 and 11.
+fn by_ticks(board: &mut Board<FlatStore<'_>, LatchCard>) -> Result<(), Fault> {
+    let (mut machine, key) = power(board);
     for tick in 0..16u8 {
         let levels = Levels {
             ready: true,
             int: tick == 0,
             jam: RST_1,
         };
-        if let Err(fault) = machine.tick(&key, levels, &mut store, &mut card) {
-            return Some(fault);
-        }
+        let _ = machine.tick(&key, levels, board)?;
     }
-    None
+    Ok(())
 }
 
 // Latches at zero, and every port fitted but input port 1.
@@ -136,32 +123,38 @@ fn card_without_port_1() -> LatchCard
     card
 }
 
-// The refusal's number, who refused, the program counter at the instruction's start and the cycle.
-fn fault_line(heap: Global, met: Option<Fault>) -> Result<String, AllocError> {
-    let Some(fault) = met else {
-        return String::from_str(heap, "no refusal");
-    };
-    let by = match fault.layer {
-        Layer::Decoder => "the decoder",
-        Layer::PortCard => "the port card",
-    };
-    format!(in heap;
-        "refusal {} by {by}, PC={}, cycle {}",
-        fault.cause.number(),
-        Hex4(fault.pc),
-        fault.cycle
-    )
+// A refusal's number, who refused, the program counter at the instruction's start and the cycle.
+#[derive(Clone, Copy)]
+struct Met(Option<Fault>);
+
+impl fmt::Display for Met {
+    fn fmt<W: fmt::Write>(&self, f: &mut fmt::Formatter<W>) -> fmt::Result {
+        let Some(fault) = self.0 else {
+            return f.write_str("no refusal");
+        };
+        let by = match fault.layer {
+            Layer::Decoder => "the decoder",
+            Layer::PortCard => "the port card",
+        };
+        write!(f, "refusal {} by {by}", fault.cause.number())?;
+        write!(f, ", PC={}, cycle {}", Hex4(fault.pc), fault.cycle)
+    }
 }
 
 // The number of a tape's refusal, and the place of the byte at fault.
-fn tape_line(heap: Global, tape: &[u8]) -> Result<String, AllocError> {
-    let mut buffer = [0u8; 16];
-    match read_tape(tape, &mut buffer) {
-        Ok(_) => String::from_str(heap, "no refusal"),
-        Err(refusal) => format!(in heap;
-            "refusal {} at place {}",
-            refusal.number(),
-            refusal.place()
-        ),
+#[derive(Clone, Copy)]
+struct TapeMet(Option<TapeRefusal>);
+
+impl fmt::Display for TapeMet {
+    fn fmt<W: fmt::Write>(&self, f: &mut fmt::Formatter<W>) -> fmt::Result {
+        match self.0 {
+            None => f.write_str("no refusal"),
+            Some(refusal) => write!(
+                f,
+                "refusal {} at place {}",
+                refusal.number(),
+                refusal.place()
+            ),
+        }
     }
 }

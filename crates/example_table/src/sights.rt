@@ -1,8 +1,9 @@
 ghost use Rattle.std.specs.Prelude.{◌≡◌};
 ghost use Rattle.cpu.specs.Processor.{view_of};
-ghost use Rattle.example_table.specs.Sights.{digit_of, sight_of};
+ghost use Rattle.example_table.specs.Sights.{sight_of};
 
 use cpu::Processor;
+use isa::Flags;
 use report::{Hex2, Hex4};
 use std::fmt;
 
@@ -30,23 +31,17 @@ impl fmt::Display for Sight {
 pub(crate) fn sight_of(processor: &Processor) -> Sight
     ensures { result ≡ sight_of (view_of processor.now) }
 {
-    let flags = [
-        digit_of(processor.flags.carry),
-        digit_of(processor.flags.zero),
-        digit_of(processor.flags.sign),
-        digit_of(processor.flags.parity),
-    ];
+    let Flags {
+        carry,
+        zero,
+        sign,
+        parity,
+    } = processor.flags;
     Sight {
-        flags,
+        flags: [carry, zero, sign, parity].map(u8::from),
         a: processor.registers.a,
         l: processor.registers.l,
         k: processor.ring.number(),
         pc: processor.ring.pc(),
     }
-}
-
-fn digit_of(flag: bool) -> u8
-    ensures { result ≡ digit_of flag }
-{
-    if flag { 1 } else { 0 }
 }

@@ -7,8 +7,8 @@ mod rows;
 mod schedules;
 mod spent;
 
-use bus::{FlatStore, LatchCard};
-use lines::line;
+use bus::{Board, Bus, FlatStore, LatchCard};
+use lines::Line;
 use machine::{Machine, RunKey, power};
 use rows::{ROWS, Row, Run};
 use runs::run;
@@ -19,13 +19,9 @@ use std::io;
 fn main(rt: HostRuntime) -> io::Result<()> {
     let mut passed = 0u32;
     for row in ROWS.iter() {
-        if run_row(&rt, row)? {
-            passed = passed.saturating_add(1);
-        }
+        passed = passed.saturating_add(u32::from(run_row(&rt, row)?));
     }
-    if run_spent(&rt)? {
-        passed = passed.saturating_add(1);
-    }
+    passed = passed.saturating_add(u32::from(run_spent(&rt)?));
     println!(rt; "{passed} of {} rows passed", ROWS.len() + 1)
 }
 
@@ -33,15 +29,17 @@ fn main(rt: HostRuntime) -> io::Result<()> {
 // of them; answers whether all was as expected. Input port 1 gives 77.
 fn run_row(rt: &HostRuntime, row: &Row) -> io::Result<bool> {
     let mut memory = row.program.to_vec(rt.alloc())?;
-    let mut store = FlatStore {
-        bytes: &mut memory,
-        fixed: 0,
+    let mut board = Board {
+        store: FlatStore {
+            bytes: &mut memory,
+            fixed: 0,
+        },
+        card: LatchCard::new(),
     };
-    let mut card = LatchCard::new();
-    let _ = card.set_input(1, 77);
-    let (mut machine, key) = power(&store, &card);
+    let _ = board.card.set_input(1, 77);
+    let (mut machine, key) = power(&board);
     for part in row.runs {
-        let came = run_part(rt.alloc(), part, &mut machine, &key, &mut store, &mut card)?;
+        let came = run_part(rt.alloc(), part, &mut machine, &key, &mut board)?;
         if came.as_str() != part.expected {
             println!(rt;
                 "{}: WRONG expected {} came {came}",
@@ -60,15 +58,26 @@ fn run_part(
     part: &Run,
     machine: &mut Machine,
     key: &RunKey,
-    store: &mut FlatStore<'_>,
-    card: &mut LatchCard,
+    board: &mut Board<FlatStore<'_>, LatchCard>,
 ) -> Result<String, AllocError> {
     let _ = if part.port_1 {
-        card.fit(1)
+        board.card.fit(1)
     } else {
-        card.unfit(1)
+        board.card.unfit(1)
     };
     let schedule = part.schedule.bytes(heap)?;
-    let answer = run(machine, key, &schedule, store, card);
-    line(heap, &answer, machine)
+    run_over(heap, &schedule, machine, key, board)
+}
+
+// Runs a machine over a schedule, and answers the line of what came of it.
+pub(crate) fn run_over<B: Bus>(
+    heap: Global,
+    schedule: &[u8],
+    machine: &mut Machine,
+    key: &RunKey,
+    bus: &mut B,
+) -> Result<String, AllocError> {
+    let answer = run(machine, key, schedule, bus);
+    let processor = machine.processor();
+    format!(in heap; "{}", Line { answer, processor })
 }

@@ -24,12 +24,10 @@ impl Schedule {
 
 // Two bytes for each letter.
 fn ticks(heap: Global, letters: &[u8], jam: u8) -> Result<Vec<u8>, AllocError> {
-    let mut schedule = Vec::new(heap);
-    for letter in letters {
-        schedule.push(first_byte(*letter))?;
-        schedule.push(jam)?;
-    }
-    Ok(schedule)
+    letters
+        .iter()
+        .flat_map(|letter| [first_byte(*letter), jam])
+        .collect(heap)
 }
 
 // The first byte of a tick: `R` is READY, `I` READY and INT, `i` INT alone, `x` READY and another bit, and

@@ -1,4 +1,5 @@
 use slips::{drive_ready, interrupt_at};
+use std::alloc::{AllocError, Global};
 use std::{env, io};
 
 // The ticks of a schedule, where the arguments do not say how many.
@@ -17,59 +18,64 @@ enum Word {
     Interrupt(usize, u8),
 }
 
-// Makes the schedule that the program's arguments describe. Where they are bad it says so, and answers false.
-pub fn read(rt: &HostRuntime, schedule: &mut Vec<u8>) -> io::Result<bool> {
-    let mut ticks = TICKS;
-    let mut low = 0;
-    let mut interrupts = Vec::new(rt.alloc());
-    let mut words = env::args(rt)?;
-    let _ = words.next();
-    for word in words {
+// What all arguments ask for: the ticks, in how many of them READY is low before each in which it is high, and the
+// interrupts with their jam bytes.
+#[derive(Drop)]
+struct Plan {
+    ticks: usize,
+    low: u8,
+    interrupts: Vec<(usize, u8)>,
+}
+
+// The schedule that the program's arguments describe. Where they are bad it says so, and there is none.
+pub fn read(rt: &HostRuntime) -> io::Result<Option<Vec<u8>>> {
+    let mut plan = Plan {
+        ticks: TICKS,
+        low: 0,
+        interrupts: Vec::new(rt.alloc()),
+    };
+    for word in env::args(rt)?.skip(1) {
         match read_word(&word) {
-            Some(Word::Ticks(count)) => ticks = count,
-            Some(Word::Low(count)) => low = count,
-            Some(Word::Interrupt(tick, jam)) => interrupts.push((tick, jam))?,
+            Some(Word::Ticks(count)) => plan.ticks = count,
+            Some(Word::Low(count)) => plan.low = count,
+            Some(Word::Interrupt(tick, jam)) => plan.interrupts.push((tick, jam))?,
             None => {
                 println!(rt;
                     "error: no such argument: {word} (use ticks=COUNT, low=COUNT, int=TICK:JAM)"
                 )?;
-                return Ok(false);
+                return Ok(None);
             }
         }
     }
-    if interrupts.is_empty() {
-        interrupts.push((0, RESTART))?;
+    Ok(Some(plan.schedule(rt.alloc())?))
+}
+
+impl Plan {
+    // The schedule, with a restart in its first tick where no interrupt is asked for.
+    fn schedule(self, heap: Global) -> Result<Vec<u8>, AllocError> {
+        let mut schedule = vec![in heap; 0u8; 2 * self.ticks.min(MOST)]?;
+        drive_ready(&mut schedule, self.low);
+        if self.interrupts.is_empty() {
+            interrupt_at(&mut schedule, 0, RESTART);
+        }
+        for (tick, jam) in self.interrupts {
+            interrupt_at(&mut schedule, tick, jam);
+        }
+        Ok(schedule)
     }
-    schedule.resize(2 * ticks.min(MOST), 0)?;
-    drive_ready(schedule, low);
-    for (tick, jam) in interrupts {
-        interrupt_at(schedule, tick, jam);
-    }
-    Ok(true)
 }
 
 // Reads `ticks=COUNT`, `low=COUNT` or `int=TICK:JAM`: counts and ticks in decimal, the jam byte in hexadecimal.
 fn read_word(word: &str) -> Option<Word> {
-    let mut parts = word.split('=');
-    let name = parts.next()?;
-    let value = parts.next()?;
-    if parts.next().is_some() {
-        return None;
-    }
+    let (name, value) = word.split_once('=')?;
     match name {
-        "ticks" => Some(Word::Ticks(value.parse::<usize>().ok()?)),
-        "low" => Some(Word::Low(value.parse::<u8>().ok()?)),
-        "int" => read_interrupt(value),
+        "ticks" => value.parse().ok().map(Word::Ticks),
+        "low" => value.parse().ok().map(Word::Low),
+        "int" => {
+            let (tick, jam) = value.split_once(':')?;
+            let jam = u8::from_str_radix(jam, 16).ok()?;
+            Some(Word::Interrupt(tick.parse().ok()?, jam))
+        }
         _ => None,
-    }
-}
-
-fn read_interrupt(text: &str) -> Option<Word> {
-    let mut parts = text.split(':');
-    let tick = parts.next()?.parse::<usize>().ok()?;
-    let jam = u8::from_str_radix(parts.next()?, 16).ok()?;
-    match parts.next() {
-        Some(_) => None,
-        None => Some(Word::Interrupt(tick, jam)),
     }
 }

@@ -12,10 +12,9 @@ use std::io::Read;
 const TAPE: u64 = 60_000;
 
 fn main(rt: HostRuntime) -> io::Result<()> {
-    let mut schedule = Vec::new(rt.alloc());
-    if !arguments::read(&rt, &mut schedule)? {
+    let Some(schedule) = arguments::read(&rt)? else {
         return Ok(());
-    }
+    };
     let mut tape = Vec::new(rt.alloc());
     let _ = rt.stdin().take(TAPE).read_to_end(&mut tape)?;
     match make_slip(rt.alloc(), &tape, &schedule) {

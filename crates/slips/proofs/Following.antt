@@ -1,5 +1,5 @@
 -- Both engines stay side by side: at power-up, over an accepted tick, and over a refused one.
-use Rattle.std.proofs.Common.{◌≡◌, ℕ, ◌+◌, eqb, List, [], ◌∷◌, length, Some, None, Ok, Err, Option, sym, refl, ap, ◌∙◌, subst, ap₂, arith}
+use Rattle.std.proofs.Common.{◌≡◌, ℕ, suc, ◌+◌, ◌≤◌, eqb, List, [], ◌∷◌, length, Some, None, Ok, Err, Option, sym, refl, ap, ◌∙◌, subst, ap₂, add-zero, arith}
 use Rattle.cpu.specs.declared.faults.Fault.{Fault}
 use Rattle.cpu.specs.Processor.{View}
 use Rattle.cpu.specs.Place.{Place}
@@ -16,8 +16,8 @@ use Rattle.agreement.specs.InstructionMachine.{Item, Begun, nothing, by_own, by_
 use Rattle.agreement.specs.Agreement.{with_ended, endings, sum}
 use Rattle.agreement.proofs.Theorem.{engines_agree}
 use Rattle.runs.specs.declared.outcomes.RunFault.{RunFault}
-use Rattle.slips.specs.declared.counts.Counts.{Counts}
-use Rattle.slips.specs.Counting.{one, counted, plus_step}
+use Rattle.states.specs.declared.tallies.Tally.{Tally}
+use Rattle.states.specs.Tallies.{one, plus, counted, counted_step, Within}
 use Rattle.slips.specs.Feeding.{place_fed, states_fed}
 use Rattle.slips.specs.Feeding as feeding
 use Rattle.slips.specs.Sheets.{Kept, noted_by, noted}
@@ -39,9 +39,22 @@ at_power_up_lem {S} start s k e f =
     }))
 
 -- The counts, whether or not an instruction ended.
-counts_noted : {S : Type 0} (o : Option ℕ) (b : Begun) (v : View) (c : Counts) (k : Kept S) → c ≡ (noted_by o b v c k).counts
+counts_noted : {S : Type 0} (o : Option ℕ) (b : Begun) (v : View) (c : Tally) (k : Kept S) → c ≡ (noted_by o b v c k).counts
 counts_noted None b v c k = refl
 counts_noted (Some n) b v c k = refl
+
+-- What few ticks can raise the counts by, many can.
+pub widened : (few many : ℕ) (t : Tally) → few ≤ many → Within few t → Within many t
+widened few many t h w = record {
+  accepted = omega (arith, w.accepted);
+  instructions = omega (arith, w.instructions);
+  table_states = omega (arith, w.table_states);
+  waits = omega (arith, w.waits);
+  idle = omega (arith, w.idle);
+}
+
+pub one_less : (ls rest : List Levels) (l : Levels) → ls ≡ l ∷ rest → length ls ≡ suc (length rest)
+one_less ls rest l k = ap length k
 
 ended_counted : (o : Option ℕ) (n : ℕ) (ns : List ℕ) → n ≡ length ns → n + one o ≡ length (with_ended o ns)
 ended_counted None n ns e = omega arith
@@ -51,7 +64,7 @@ states_counted : (o : Option ℕ) (n : ℕ) (ns : List ℕ) → n ≡ sum ns →
 states_counted None n ns e = omega arith
 states_counted (Some states) n ns e = omega arith
 
-counts_follow : (es : List Event) (l : Levels) (t : Ticked) (c : Counts) → CountsOf es c → CountsOf (tick l (Ok t) ∷ es) (counted c t)
+counts_follow : (es : List Event) (l : Levels) (t : Ticked) (c : Tally) → CountsOf es c → CountsOf (tick l (Ok t) ∷ es) (plus c (counted t))
 counts_follow es l t c k = record {
   ticks = omega (arith, k.ticks);
   instructions = ended_counted t.ended c.instructions (endings es) k.instructions;
@@ -60,7 +73,11 @@ counts_follow es l t c k = record {
   idle = omega (arith, k.idle);
 }
 
-module _ {S : Type 0} (start : Place S) (items : List Item) (v : View) (c : Counts) (k : Kept S) where
+-- A step that carries nothing out counts for nothing.
+no_step : (c : Tally) → plus c (counted_step None) ≡ c
+no_step c = simp add-zero
+
+module _ {S : Type 0} (start : Place S) (items : List Item) (v : View) (c : Tally) (k : Kept S) where
   -- What the instruction engine is fed is what the list has.
   twin_fed : (b : Begun) → k.twin ≡ (fed start items).place → place_fed b k.twin ≡ (fed start (ended_by (Some 0) b items).items).place
   twin_fed nothing e = e
@@ -69,11 +86,11 @@ module _ {S : Type 0} (start : Place S) (items : List Item) (v : View) (c : Coun
   twin_fed (by_jam byte) e = ap (λ p. (stepped (Jam byte) p).after) e
 
   steps_fed : (b : Begun) → k.twin ≡ (fed start items).place → k.steps ≡ steps_of (fed start items).answers →
-      plus_step k.steps (states_fed b k.twin) ≡ steps_of (fed start (ended_by (Some 0) b items).items).answers
-  steps_fed nothing e f = f
-  steps_fed by_own e f = ap₂ (λ q p. plus_step q (feeding.states_of (stepped Own p).answer)) f e
-  steps_fed by_interrupt e f = f
-  steps_fed (by_jam byte) e f = ap₂ (λ q p. plus_step q (feeding.states_of (stepped (Jam byte) p).answer)) f e
+      plus k.steps (counted_step (states_fed b k.twin)) ≡ steps_of (fed start (ended_by (Some 0) b items).items).answers
+  steps_fed nothing e f = no_step k.steps ∙ f
+  steps_fed by_own e f = ap₂ (λ q p. plus q (counted_step (feeding.states_of (stepped Own p).answer))) f e
+  steps_fed by_interrupt e f = no_step k.steps ∙ f
+  steps_fed (by_jam byte) e f = ap₂ (λ q p. plus q (counted_step (feeding.states_of (stepped (Jam byte) p).answer))) f e
 
   twin_follows : (o : Option ℕ) (b : Begun) → k.twin ≡ (fed start items).place →
       (noted_by o b v c k).twin ≡ (fed start (ended_by o b items).items).place
@@ -99,7 +116,7 @@ pub accepted : {S : Type 0} (start : Place S) (es : List Event) (s after : Situa
     SideBySide start es s k None → ticked l s ≡ record { answer = Ok t; after = after } → v ≡ after.place.processor →
     next ≡ noted l.jam t v k → SideBySide start (tick l (Ok t) ∷ es) after next None
 accepted {S} start es s after l t v k next q e w f =
-    let c = counted k.counts t in
+    let c = plus k.counts (counted t) in
     let items = (program_of es).items in
     let b = begun_after (program_of es).begun l.jam t.state (eqb t.cycle 1) in
     let h : History start (tick l (Ok t) ∷ es) after run = then q.history (ticks l e) in
@@ -119,7 +136,7 @@ accepted {S} start es s after l t v k next q e w f =
     })
 
 pub refused : {S : Type 0} (start : Place S) (es : List Event) (s after : Situation S) (l : Levels) (f : Fault) (k : Kept S) (i : ℕ) →
-    SideBySide start es s k None → ticked l s ≡ record { answer = Err f; after = after } → k.counts.ticks ≡ i →
+    SideBySide start es s k None → ticked l s ≡ record { answer = Err f; after = after } → k.counts.accepted ≡ i →
     SideBySide start (tick l (Err f) ∷ es) after k (Some (record { fault = f; tick = i }))
 refused start es s after l f k i q e n = record {
   history = then q.history (ticks l e);

@@ -1,6 +1,7 @@
 -- A tape that ends well and a good schedule give the slip of the memory that holds the tape's words.
 use Rattle.std.proofs.Common.{◌≡◌, ℕ, List, ◌++◌, length, drop, replicate, Ok, Result, sym, ap, ◌∙◌, subst, arith}
 use lib.ListN.{length-replicate}
+use Rattle.cpu.specs.Place.{Place}
 use Rattle.tape.specs.Tape.{Ending, stopped, bad, full, Reads}
 use Rattle.tape.specs.Reading.{Reading, answered}
 use Rattle.tape.specs.declared.refusals.TapeRefusal.{TapeRefusal}
@@ -27,3 +28,6 @@ told tape schedule before memory held answer x slip zeros r is good h s = record
   tells = told_by r.ending r.words schedule held answer x slip r.answer is good
       (h ∙ r.buffer ∙ ap (λ bytes. r.words ++ drop (length r.words) bytes) zeros) s;
 }
+
+pub same_schedule : {S : Type 0} {start : Place S} {slip : Slip} {a b : List ℕ} → a ≡ b → SlipOf start (levels_of a) slip → SlipOf start (levels_of b) slip
+same_schedule {start = start} {slip = slip} e s = subst (λ bytes. SlipOf start (levels_of bytes) slip) e s

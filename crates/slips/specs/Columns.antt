@@ -1,6 +1,6 @@
 -- The two columns of a slip.
 use Rattle.std.specs.Prelude.{◌≡◌, ℕ, ◌+◌, List, [], length, Option}
-use Rattle.cpu.specs.Processor.{View, pc_in}
+use Rattle.cpu.specs.Processor.{View}
 use Rattle.cpu.specs.Place.{Place}
 use Rattle.states.specs.declared.in_hand.InHand.TheVariants.{Start}
 use Rattle.states.specs.declared.ticks.Levels.{Levels}
@@ -9,10 +9,10 @@ use Rattle.states.specs.Situation.{Situation, situation}
 use Rattle.agreement.specs.Calls.{Event, run, History}
 use Rattle.agreement.specs.InstructionMachine.{program_of, fed}
 use Rattle.agreement.specs.Agreement.{endings, accepted, waited, idled, total, sum}
+use Rattle.report.specs.Readouts.{readout_of}
 use Rattle.runs.specs.declared.outcomes.RunFault.{RunFault}
 use Rattle.runs.specs.Histories.{and_ticks}
-use Rattle.slips.specs.declared.counts.Counts.{Counts}
-use Rattle.slips.specs.declared.counts.StepCounts.{StepCounts}
+use Rattle.states.specs.declared.tallies.Tally.{Tally}
 use Rattle.slips.specs.declared.columns.Column.{Column}
 use Rattle.slips.specs.declared.columns.Slip.{Slip}
 use Rattle.slips.specs.SideBySide.{fault_after}
@@ -25,17 +25,14 @@ column_of instructions states waits idle in_hand ticks v = record {
   idle = idle;
   in_hand = in_hand;
   ticks = ticks;
-  registers = v.registers;
-  flags = v.flags;
-  pc = pc_in v;
-  k = v.ring.number;
+  readout = readout_of v;
 }
 
 -- The slip of what was counted. The ticks of the instruction engine are its states, the waits, the idle states and the states
 -- in hand.
-abbrev pub slip_from : Counts → StepCounts → ℕ → View → View → Option RunFault → Slip
+abbrev pub slip_from : Tally → Tally → ℕ → View → View → Option RunFault → Slip
 slip_from c steps in_hand ended twin fault = record {
-  states = column_of c.instructions c.table_states c.waits c.idle in_hand c.ticks ended;
+  states = column_of c.instructions c.table_states c.waits c.idle in_hand c.accepted ended;
   steps = column_of steps.instructions steps.table_states c.waits c.idle in_hand (steps.table_states + c.waits + c.idle + in_hand) twin;
   fault = fault;
 }

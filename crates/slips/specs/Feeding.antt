@@ -1,10 +1,8 @@
 -- What the instruction engine is fed as an instruction ends.
-use Rattle.std.specs.Prelude.{ℕ, Some, None, Ok, Err, Option, Result}
+use Rattle.std.specs.Prelude.{ℕ, None, Ok, Err, Option, Result}
 use Rattle.cpu.specs.declared.faults.Fault.{Fault}
 use Rattle.cpu.specs.Place.{Place}
 use Rattle.stepper.specs.declared.feeds.Feed.TheVariants.{Own, Jam}
-use Rattle.stepper.specs.declared.feeds.Stepped.{Stepped}
-use Rattle.stepper.specs.declared.feeds.Stepped.TheVariants.{Stopped, Done}
 use Rattle.stepper.specs.Steps.{stepped}
 use Rattle.agreement.specs.InstructionMachine.{Begun, nothing, by_own, by_interrupt, by_jam}
 use Rattle.slips.specs.declared.beginnings.Beginning.{Beginning}
@@ -18,9 +16,8 @@ begun_of code.Interrupt = by_interrupt
 begun_of (code.Jam byte) = by_jam byte
 
 -- The states that a step answered, if it was carried out.
-abbrev pub states_of : Result Stepped Fault → Option ℕ
-states_of (Ok (Done states)) = Some states
-states_of (Ok Stopped) = None
+abbrev pub states_of : Result (Option ℕ) Fault → Option ℕ
+states_of (Ok answered) = answered
 states_of (Err fault) = None
 
 -- An instruction that ends is an own step if T1 began it, and a jam with the accepted byte if T1I did.

@@ -1,4 +1,3 @@
-pub mod Counting
 pub mod Feeding
 pub mod Sheets
 pub mod SideBySide

@@ -1,35 +1,41 @@
 -- Both engines side by side, in terms of the history of the state engine and of the list that it makes.
-use Rattle.std.specs.Prelude.{◌≡◌, List, [], ◌∷◌, length, Some, None, Ok, Err, Option, Result}
+use Rattle.std.specs.Prelude.{◌≡◌, ℕ, List, [], ◌∷◌, length, Some, None, Ok, Err, Option, Result}
+use Rattle.bus.specs.Store.{Cells}
+use Rattle.bus.specs.Card.{Rules}
+use Rattle.bus.specs.Wiring.{Wiring, wired}
+use Rattle.bus.specs.declared.buses.Board.{Board}
 use Rattle.cpu.specs.declared.faults.Fault.{Fault}
 use Rattle.cpu.specs.Place.{Place}
-use Rattle.stepper.specs.declared.feeds.Stepped.{Stepped}
 use Rattle.states.specs.Situation.{Situation}
 use Rattle.agreement.specs.Calls.{Event, tick, hold, examine, deposit, release, run, History}
 use Rattle.agreement.specs.InstructionMachine.{nothing, program_of, fed}
 use Rattle.agreement.specs.Agreement.{endings, accepted, waited, idled, total, sum}
 use Rattle.runs.specs.declared.outcomes.RunFault.{RunFault}
-use Rattle.slips.specs.declared.counts.Counts.{Counts}
-use Rattle.slips.specs.declared.counts.StepCounts.{StepCounts}
-use Rattle.slips.specs.Counting.{no_counts, no_steps, plus_step}
+use Rattle.states.specs.declared.tallies.Tally.{Tally}
+use Rattle.states.specs.Tallies.{nothing as no_counts, plus, counted_step}
 use Rattle.slips.specs.Feeding.{states_of}
 use Rattle.slips.specs.Sheets.{Kept}
 
+-- What a board is wired to.
+abbrev pub wiring_of : {S C T : Type 0} → (S → Cells) → (C → Rules T) → (C → T) → Board S C → Wiring T
+wiring_of cells rules state b = wired (cells b.store) (rules b.card) (state b.card)
+
 -- At power-up nothing is counted and no instruction has begun.
 abbrev pub at_power_up : {S : Type 0} → Place S → Kept S
-at_power_up start = record { counts = no_counts; steps = no_steps; begun = nothing; ended = start.processor; twin = start }
+at_power_up start = record { counts = no_counts; steps = no_counts; begun = nothing; ended = start.processor; twin = start }
 
 -- What the ticks of a history count for.
-pub record CountsOf (es : List Event) (c : Counts) : Type 0 where
-  pub ticks : c.ticks ≡ total accepted es
+pub record CountsOf (es : List Event) (c : Tally) : Type 0 where
+  pub ticks : c.accepted ≡ total accepted es
   pub instructions : c.instructions ≡ length (endings es)
   pub table_states : c.table_states ≡ sum (endings es)
   pub waits : c.waits ≡ total waited es
   pub idle : c.idle ≡ total idled es
 
 -- What the steps that gave these answers count for, the last first.
-abbrev pub steps_of : List (Result Stepped Fault) → StepCounts
-steps_of [] = no_steps
-steps_of (answer ∷ before) = plus_step (steps_of before) (states_of answer)
+abbrev pub steps_of : List (Result (Option ℕ) Fault) → Tally
+steps_of [] = no_counts
+steps_of (answer ∷ before) = plus (steps_of before) (counted_step (states_of answer))
 
 -- The fault of the last call, if it was a refused tick, with that tick's index.
 abbrev pub fault_after : List Event → Option RunFault

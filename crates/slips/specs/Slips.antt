@@ -2,6 +2,7 @@
 use Rattle.std.specs.Prelude.{◌≡◌, ℕ, List, ◌++◌, length, drop, replicate, Ok, Err, Result}
 use Rattle.bus.specs.Flat.{flat}
 use Rattle.bus.specs.Latch.{Latches, latch_rules, all_fitted, zeroed}
+use Rattle.bus.specs.Wiring.{wired}
 use Rattle.cpu.specs.Place.{Place, powered_place}
 use Rattle.tape.specs.Tape.{Ending, stopped, bad, full, Reads}
 use Rattle.tape.specs.declared.refusals.TapeRefusal.TheVariants.{BadWord, BufferFull}
@@ -13,7 +14,7 @@ use Rattle.slips.specs.Columns.{SlipOf}
 
 -- A processor just powered up over a memory that is all RAM, with a latch card all fitted and zero.
 abbrev pub powered_over : List ℕ → Place Latches
-powered_over memory = powered_place (flat memory 0) (latch_rules all_fitted) zeroed
+powered_over memory = powered_place (wired (flat memory 0) (latch_rules all_fitted) zeroed)
 
 -- The memory that holds the words of a tape, and zeros after them.
 abbrev pub holding : List ℕ → List ℕ

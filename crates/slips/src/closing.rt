@@ -1,46 +1,48 @@
 ghost use Rattle.std.specs.Prelude.{◌≡◌};
 ghost use Rattle.cpu.specs.Processor.{view_of};
 ghost use Rattle.slips.specs.Columns.{column_of, slip_from};
-ghost use Rattle.slips.specs.Counting.{Within, StepsWithin};
+ghost use Rattle.states.specs.Tallies.{Within};
 
 use crate::columns::{Column, Slip};
 use crate::sheets::Sheet;
 use cpu::Processor;
+use report::Readout;
 use runs::RunFault;
+use states::Tally;
 
-impl Sheet {
-    // The slip of what was kept, with the states in hand, the instruction engine's processor and the fault.
-    pub(crate) fn slip(&self, in_hand: u8, twin: &Processor, fault: Option<RunFault>) -> Slip
-        requires { (Within 65536 self.now.counts) × (StepsWithin 65536 self.now.steps) }
-        ensures { result ≡ slip_from self.now.counts self.now.steps in_hand (view_of self.now.ended) (view_of twin.now) fault }
+impl Column {
+    // The column of what was counted, of the states in hand and of what the processor holds.
+    fn new(counts: Tally, in_hand: u8, processor: &Processor) -> Column
+        ensures { result ≡ column_of counts.instructions counts.table_states counts.waits counts.idle in_hand counts.accepted (view_of processor.now) }
     {
-        let counts = self.counts;
-        let steps = self.steps;
-        let states = Column {
+        Column {
             instructions: counts.instructions,
             table_states: counts.table_states,
             waits: counts.waits,
             idle: counts.idle,
             in_hand,
-            ticks: counts.ticks,
-            registers: self.ended.registers,
-            flags: self.ended.flags,
-            pc: self.ended.ring.pc(),
-            k: self.ended.ring.number(),
-        };
-        let steps = Column {
+            ticks: counts.accepted,
+            readout: Readout::of(processor),
+        }
+    }
+}
+
+impl Sheet {
+    // The slip of what was kept, with the states in hand, the instruction engine's processor and the fault.
+    pub(crate) fn slip(&self, in_hand: u8, twin: &Processor, fault: Option<RunFault>) -> Slip
+        requires { (Within 65536 self.now.counts) × (Within 65536 self.now.steps) }
+        ensures { result ≡ slip_from self.now.counts self.now.steps in_hand (view_of self.now.ended) (view_of twin.now) fault }
+    {
+        let (counts, steps) = (self.counts, self.steps);
+        let stepped = Tally {
             instructions: steps.instructions,
             table_states: steps.table_states,
-            ticks: steps.table_states + counts.waits + counts.idle + in_hand as u32,
-            registers: twin.registers,
-            flags: twin.flags,
-            pc: twin.ring.pc(),
-            k: twin.ring.number(),
-            ..states
+            accepted: steps.table_states + counts.waits + counts.idle + u32::from(in_hand),
+            ..counts
         };
         Slip {
-            states,
-            steps,
+            states: Column::new(counts, in_hand, &self.ended),
+            steps: Column::new(stepped, in_hand, twin),
             fault,
         }
     }

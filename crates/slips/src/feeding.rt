@@ -4,43 +4,31 @@ ghost use Rattle.stepper.specs.Steps.{stepped};
 ghost use Rattle.slips.specs.Feeding.{begun_of, states_of, place_fed, states_fed};
 
 use crate::beginnings::Beginning;
-use bus::{PortCard, Store};
+use bus::Bus;
 use cpu::Processor;
-use stepper::{Feed, Stepped, step};
+use stepper::{Feed, step};
 
 // Feeds the instruction engine the instruction that ended: an own step, or a jam. It answers the states of the
 // step, if one was carried out.
-pub(crate) fn feed_twin<S: Store, C: PortCard>(
+pub(crate) fn feed_twin<B: Bus>(
     beginning: Beginning,
     twin: &mut Processor,
-    store: &mut S,
-    card: &mut C,
+    bus: &mut B,
 ) -> Option<u8>
-    ensures place { place_of twin.new (S.cells store.new) (C.rules card.new) (C.state card.new) ≡ place_fed (begun_of beginning) (place_of twin.old (S.cells store.old) (C.rules card.old) (C.state card.old)) }
-    ensures states { result ≡ states_fed (begun_of beginning) (place_of twin.old (S.cells store.old) (C.rules card.old) (C.state card.old)) }
+    ensures place { place_of twin.new (B.wiring bus.new) ≡ place_fed (begun_of beginning) (place_of twin.old (B.wiring bus.old)) }
+    ensures states { result ≡ states_fed (begun_of beginning) (place_of twin.old (B.wiring bus.old)) }
 {
     match beginning {
-        Beginning::Own => take_step(Feed::Own, twin, store, card),
-        Beginning::Jam(byte) => take_step(Feed::Jam(byte), twin, store, card),
+        Beginning::Own => take_step(Feed::Own, twin, bus),
+        Beginning::Jam(byte) => take_step(Feed::Jam(byte), twin, bus),
         Beginning::Nothing | Beginning::Interrupt => None,
     }
 }
 
 // One step, and its states, if it was carried out.
-fn take_step<S: Store, C: PortCard>(
-    feed: Feed,
-    twin: &mut Processor,
-    store: &mut S,
-    card: &mut C,
-) -> Option<u8>
-    ensures place { place_of twin.new (S.cells store.new) (C.rules card.new) (C.state card.new) ≡ (stepped feed (place_of twin.old (S.cells store.old) (C.rules card.old) (C.state card.old))).after }
-    ensures states { result ≡ states_of (stepped feed (place_of twin.old (S.cells store.old) (C.rules card.old) (C.state card.old))).answer }
+fn take_step<B: Bus>(feed: Feed, twin: &mut Processor, bus: &mut B) -> Option<u8>
+    ensures place { place_of twin.new (B.wiring bus.new) ≡ (stepped feed (place_of twin.old (B.wiring bus.old))).after }
+    ensures states { result ≡ states_of (stepped feed (place_of twin.old (B.wiring bus.old))).answer }
 {
-    match step(twin, feed, store, card) {
-        Ok(stepped) => match stepped {
-            Stepped::Done(states) => Some(states),
-            Stepped::Stopped => None,
-        },
-        Err(_) => None,
-    }
+    step(twin, feed, bus).unwrap_or(None)
 }

@@ -6,7 +6,6 @@ mod beginnings;
 mod closing;
 mod columns;
 mod comparing;
-mod counts;
 mod feeding;
 mod making;
 mod noting;

@@ -1,16 +1,17 @@
-ghost use Rattle.std.specs.Prelude.{◌≡◌, ◌≤◌, length, replicate, IfOk};
-ghost use Rattle.bus.specs.Flat.{flat};
-ghost use Rattle.bus.specs.Latch.{latch_rules, all_fitted, zeroed};
-ghost use Rattle.cpu.specs.Place.{powered_place};
+ghost use Rattle.std.specs.Prelude.{◌≡◌, replicate, IfOk};
+ghost use Rattle.bus.specs.Flat.{flat, flat_cells};
+ghost use Rattle.bus.specs.Latch.{latch_rules, all_fitted, fitted_of, latches_of, zeroed};
+ghost use Rattle.bus.specs.Wiring.{wired};
 ghost use Rattle.runs.specs.Schedules.{levels_of};
 ghost use Rattle.slips.specs.Columns.{SlipOf};
+ghost use Rattle.slips.specs.SideBySide.{wiring_of};
 ghost use Rattle.slips.specs.Slips.{powered_over, Slipped};
 
 use crate::columns::Slip;
 use crate::comparing::compare;
 use crate::refusals::SlipRefusal;
-use bus::{FlatStore, LatchCard};
-use runs::judge;
+use bus::{Board, FlatStore, LatchCard};
+use runs::Schedule;
 use std::alloc::{AllocError, Global};
 use tape::read_tape;
 
@@ -23,9 +24,7 @@ const CELLS: usize = 16384;
 pub fn make_slip(heap: Global, tape: &[u8], schedule: &[u8]) -> Result<Slip, SlipRefusal>
     ensures { Slipped tape.now schedule.now result }
 {
-    let Ok(mut memory) = zeros(heap) else {
-        return Err(SlipRefusal::NoMemory);
-    };
+    let mut memory = zeros(heap)?;
     slip_tape(heap, tape, schedule, &mut memory)
 }
 
@@ -39,16 +38,10 @@ fn slip_tape(
     requires { memory.old ≡ replicate 16384 0 }
     ensures { Slipped tape.now schedule.now result }
 {
-    if let Err(refusal) = read_tape(tape, memory) {
-        return Err(SlipRefusal::BadTape(refusal));
-    }
-    if let Err(refusal) = judge(schedule) {
-        return Err(SlipRefusal::BadSchedule(refusal));
-    }
-    let Ok(mut twin) = Vec::from_slice(heap, memory) else {
-        return Err(SlipRefusal::NoMemory);
-    };
-    Ok(slip_memory(schedule, memory, &mut twin))
+    read_tape(tape, memory)?;
+    let schedule = Schedule::new(schedule)?;
+    let mut twin = Vec::from_slice(heap, memory)?;
+    Ok(slip_memory(&schedule, memory, &mut twin))
 }
 
 // The bytes of a store at zero.
@@ -59,25 +52,22 @@ fn zeros(heap: Global) -> Result<Vec<u8>, AllocError>
 }
 
 // The slip of a schedule over two equal memories.
-fn slip_memory(schedule: &[u8], memory: &mut [u8], twin: &mut [u8]) -> Slip
-    requires { (length schedule.now ≤ 131072) × (twin.old ≡ memory.old) }
-    ensures { SlipOf (powered_over memory.old) (levels_of schedule.now) result }
+fn slip_memory(schedule: &Schedule<'_>, memory: &mut [u8], twin: &mut [u8]) -> Slip
+    requires { twin.old ≡ memory.old }
+    ensures { SlipOf (powered_over memory.old) (levels_of schedule.now.bytes.now) result }
 {
-    let mut store = FlatStore {
-        bytes: memory,
-        fixed: 0,
-    };
-    let mut twin_store = FlatStore {
-        bytes: twin,
-        fixed: 0,
-    };
-    let mut card = LatchCard::new();
-    let mut twin_card = LatchCard::new();
-    compare(
-        schedule,
-        &mut store,
-        &mut card,
-        &mut twin_store,
-        &mut twin_card,
-    )
+    compare(schedule, &mut board_over(memory), &mut board_over(twin))
+}
+
+// A store in the memory, all RAM, and a latch card, all fitted and zero.
+fn board_over(memory: &mut [u8]) -> Board<FlatStore<'_>, LatchCard>
+    ensures { wiring_of flat_cells (λ c. latch_rules (fitted_of c)) latches_of result ≡ wired (flat memory.old 0) (latch_rules all_fitted) zeroed }
+{
+    Board {
+        store: FlatStore {
+            bytes: memory,
+            fixed: 0,
+        },
+        card: LatchCard::new(),
+    }
 }

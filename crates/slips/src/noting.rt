@@ -1,16 +1,15 @@
-ghost use Rattle.std.specs.Prelude.{◌≡◌, ◌+◌, ◌≤◌};
+ghost use Rattle.std.specs.Prelude.{◌≡◌, ◌+◌};
 ghost use Rattle.cpu.specs.Place.{place_of};
 ghost use Rattle.cpu.specs.Processor.{view_of};
-ghost use Rattle.slips.specs.Counting.{Within, Raised, StepsWithin};
-ghost use Rattle.slips.specs.Sheets.{blank, kept_of, noted};
+ghost use Rattle.states.specs.Tallies.{Within};
+ghost use Rattle.slips.specs.Sheets.{blank, kept_of, noted, RaisedByOne};
 
 use crate::beginnings::Beginning;
-use crate::counts::{Counts, StepCounts};
 use crate::feeding::feed_twin;
 use crate::sheets::Sheet;
-use bus::{PortCard, Store};
+use bus::Bus;
 use cpu::Processor;
-use machine::Ticked;
+use states::{Tally, Ticked};
 
 impl Sheet {
     // The sheet at power-up, with a processor that was just powered up.
@@ -18,8 +17,8 @@ impl Sheet {
         ensures { result ≡ blank processor }
     {
         Sheet {
-            counts: Counts::new(),
-            steps: StepCounts::new(),
+            counts: Tally::default(),
+            steps: Tally::default(),
             beginning: Beginning::Nothing,
             ended: processor,
         }
@@ -27,26 +26,25 @@ impl Sheet {
 
     // Notes an accepted tick, with the jam byte that it brought and the processor after it. One that ended an
     // instruction feeds the instruction engine.
-    pub(crate) fn note<S: Store, C: PortCard>(
+    pub(crate) fn note<B: Bus>(
         &mut self,
         ticked: &Ticked,
         jam: u8,
         processor: Processor,
         twin: &mut Processor,
-        store: &mut S,
-        card: &mut C,
+        bus: &mut B,
     )
-        requires { (Within 65536 self.old.counts) × (StepsWithin 65536 self.old.steps) }
-        ensures kept { kept_of self.new (place_of twin.new (S.cells store.new) (C.rules card.new) (C.state card.new)) ≡ noted jam ticked.now (view_of processor) (kept_of self.old (place_of twin.old (S.cells store.old) (C.rules card.old) (C.state card.old))) }
-        ensures raised { Raised self.old.counts self.new.counts }
-        ensures few_steps { self.new.steps.instructions ≤ self.old.steps.instructions + 1 }
-        ensures few_states { self.new.steps.table_states ≤ self.old.steps.table_states + 255 }
+        requires { (Within 65536 self.old.counts) × (Within 65536 self.old.steps) }
+        ensures kept { kept_of self.new (place_of twin.new (B.wiring bus.new)) ≡ noted jam ticked.now (view_of processor) (kept_of self.old (place_of twin.old (B.wiring bus.old))) }
+        ensures ticks { self.new.counts.accepted ≡ self.old.counts.accepted + 1 }
+        ensures counts { RaisedByOne self.old.counts self.new.counts }
+        ensures steps { RaisedByOne self.old.steps self.new.steps }
     {
-        self.counts = self.counts.with(ticked);
+        self.counts.count_tick(ticked);
         let beginning = self.beginning.after(ticked, jam);
         match ticked.ended {
             Some(_) => {
-                self.steps = self.steps.with(feed_twin(beginning, twin, store, card));
+                self.steps.count_step(feed_twin(beginning, twin, bus));
                 self.beginning = Beginning::Nothing;
                 self.ended = processor;
             }
