@@ -1,30 +1,19 @@
 -- A text of digits and blanks, byte by byte: what was read of it, and what is left.
-use Rattle.std.proofs.Common.{◌≡◌, ℕ, ◌+◌, ◌-◌, ◌<◌, ◌≤◌, true, false, cond, List, [], ◌∷◌, ◌++◌, length, get_or, drop, Some, None, Option, sym, refl, ap, ◌∙◌, append_assoc, append-nil, arith}
-use Rattle.std.proofs.lemmas.List.{drop_all, drop-drop, drop_more, length-drop}
+use Rattle.std.proofs.Common.{◌≡◌, ℕ, ◌+◌, ◌<◌, ◌≤◌, Bool, true, false, cond, subst, List, [], ◌∷◌, ◌++◌, length, drop, Some, None, Option, Err, Result, sym, refl, ap, ◌∙◌, append_assoc, append-nil, arith}
+use Rattle.std.proofs.lemmas.List.{length-drop, nil_from_length}
+use Rattle.panel.specs.declared.commands.Mistake.{Mistake}
+use Rattle.panel.specs.declared.commands.Mistake.TheVariants.{BadSchedule}
 use Rattle.panel.specs.declared.words.Gap.TheVariants.{Blank}
 use Rattle.panel.specs.Numbers.{digit_of}
-use Rattle.panel.specs.Schedules.{bytes_of, first_byte, followed, paired}
-use Rattle.panel.specs.Words.{is_gap}
-
--- A text with less than two bytes left, and one with more.
-short : (l : List ℕ) → length l < 2 → first_byte l ≡ None
-short [] h = refl
-short (c ∷ []) h = refl
-short (c ∷ (d ∷ ds)) h = absurd (omega arith)
-
-pub one_left : (t : List ℕ) (i : ℕ) → length t - i < 2 → first_byte (drop i t) ≡ None
-one_left t i h = short (drop i t) (simp length-drop (omega arith))
-
-pub two_left : (t : List ℕ) (i : ℕ) → i + 1 < length t → first_byte (drop i t) ≡ paired (digit_of (get_or t i 0)) (digit_of (get_or t (i + 1) 0))
-two_left t i h =
-    ap first_byte (drop_more t i 0 (omega arith) ∙ ap (λ l. get_or t i 0 ∷ l) (drop_more t (i + 1) 0 h))
+use Rattle.panel.specs.Schedules.{Put, bytes_of, first_byte, followed, paired}
+use Rattle.panel.specs.Words.{after_blanks, is_gap}
 
 -- Bytes with those of the rest after them.
 abbrev pub after : List ℕ → Option (List ℕ) → Option (List ℕ)
 after bs None = None
 after bs (Some more) = Some (bs ++ more)
 
-pub after_none : (o : Option (List ℕ)) → o ≡ after [] o
+after_none : (o : Option (List ℕ)) → o ≡ after [] o
 after_none None = refl
 after_none (Some more) = refl
 
@@ -32,55 +21,92 @@ after_followed : (bs : List ℕ) (b : ℕ) (o : Option (List ℕ)) → after bs 
 after_followed bs b None = refl
 after_followed bs b (Some more) = ap Some (sym (append_assoc bs (b ∷ []) more))
 
-blank_first : (c : ℕ) (cs : List ℕ) → true ≡ is_gap Blank c → bytes_of (c ∷ cs) ≡ bytes_of cs
-unfolding bytes_of
-blank_first c [] gap = ap (λ g. cond {A = Option (List ℕ)} g (Some []) None) (sym gap)
-blank_first c (d ∷ ds) gap = ap (λ g. cond g (bytes_of (d ∷ ds)) (followed (paired (digit_of c) (digit_of d)) (bytes_of ds))) (sym gap)
+-- A text that begins with no blank.
+abbrev pub Bare : List ℕ → Type 0
+Bare [] = Unit {0}
+Bare (c ∷ cs) = is_gap Blank c ≡ false
 
-byte_first : (c : ℕ) (cs : List ℕ) (b : ℕ) → false ≡ is_gap Blank c → first_byte (c ∷ cs) ≡ Some b →
-    bytes_of (c ∷ cs) ≡ followed (Some b) (bytes_of (drop 1 cs))
-unfolding bytes_of
-byte_first c [] b other e = let z : ◌≡◌ {A = ℕ} 0 1 = cc in absurd (omega arith)
-byte_first c (d ∷ ds) b other e =
-    ap (λ g. cond g (bytes_of (d ∷ ds)) (followed (paired (digit_of c) (digit_of d)) (bytes_of ds))) (sym other) ∙ ap (λ o. followed o (bytes_of ds)) e
+bare_step : (c : ℕ) (cs : List ℕ) (gap : Bool) → is_gap Blank c ≡ gap → Bare (after_blanks cs) → Bare (cond gap (after_blanks cs) (c ∷ cs))
+bare_step c cs true e h = h
+bare_step c cs false e h = e
 
-bad_first : (c : ℕ) (cs : List ℕ) → false ≡ is_gap Blank c → first_byte (c ∷ cs) ≡ None → bytes_of (c ∷ cs) ≡ None
+pub bare : (t : List ℕ) → Bare (after_blanks t)
+bare [] = tt
+bare (c ∷ cs) = bare_step c cs (is_gap Blank c) refl (bare cs)
+
+-- Blanks add nothing.
+blank_first : (c : ℕ) (cs : List ℕ) → is_gap Blank c ≡ true → bytes_of (c ∷ cs) ≡ bytes_of cs
 unfolding bytes_of
-bad_first c [] other e = ap (λ g. cond {A = Option (List ℕ)} g (Some []) None) (sym other)
-bad_first c (d ∷ ds) other e =
-    ap (λ g. cond g (bytes_of (d ∷ ds)) (followed (paired (digit_of c) (digit_of d)) (bytes_of ds))) (sym other) ∙ ap (λ o. followed o (bytes_of ds)) e
+blank_first c [] gap = ap (λ g. cond {A = Option (List ℕ)} g (Some []) None) gap
+blank_first c (d ∷ ds) gap = ap (λ g. cond g (bytes_of (d ∷ ds)) (followed (paired (digit_of c) (digit_of d)) (bytes_of ds))) gap
+
+blank_step : (c : ℕ) (cs : List ℕ) (gap : Bool) → is_gap Blank c ≡ gap → bytes_of (after_blanks cs) ≡ bytes_of cs →
+    bytes_of (cond gap (after_blanks cs) (c ∷ cs)) ≡ bytes_of (c ∷ cs)
+blank_step c cs true e h = h ∙ sym (blank_first c cs e)
+blank_step c cs false e h = refl
+
+blanks_over : (t : List ℕ) → bytes_of (after_blanks t) ≡ bytes_of t
+blanks_over [] = refl
+blanks_over (c ∷ cs) = blank_step c cs (is_gap Blank c) refl (blanks_over cs)
+
+-- A text that begins with a byte's two digits, and one that does not.
+byte_first : (l : List ℕ) (b : ℕ) → Bare l → first_byte l ≡ Some b → bytes_of l ≡ followed (Some b) (bytes_of (drop 2 l))
+unfolding bytes_of
+byte_first [] b h e = let z : ◌≡◌ {A = ℕ} 0 1 = cc in absurd (omega arith)
+byte_first (c ∷ []) b h e = let z : ◌≡◌ {A = ℕ} 0 1 = cc in absurd (omega arith)
+byte_first (c ∷ (d ∷ ds)) b h e =
+    ap (λ g. cond g (bytes_of (d ∷ ds)) (followed (paired (digit_of c) (digit_of d)) (bytes_of ds))) h ∙ ap (λ o. followed o (bytes_of ds)) e
+
+bad_first : (l : List ℕ) → Bare l → 0 < length l → first_byte l ≡ None → bytes_of l ≡ None
+unfolding bytes_of
+bad_first [] h some e = absurd (omega arith)
+bad_first (c ∷ []) h some e = ap (λ g. cond {A = Option (List ℕ)} g (Some []) None) h
+bad_first (c ∷ (d ∷ ds)) h some e =
+    ap (λ g. cond g (bytes_of (d ∷ ds)) (followed (paired (digit_of c) (digit_of d)) (bytes_of ds))) h ∙ ap (λ o. followed o (bytes_of ds)) e
 
 -- The bytes read, with those that are left, are those of the whole text.
-abbrev pub SoFar : List ℕ → List ℕ → ℕ → Type 0
-SoFar t bs i = bytes_of t ≡ after bs (bytes_of (drop i t))
+pub record SoFar (t bs left : List ℕ) : Type 0 where
+  pub is_bare : Bare left
+  pub whole : bytes_of t ≡ after bs (bytes_of left)
 
-pub none_so_far : (t bs : List ℕ) → bs ≡ [] → SoFar t bs 0
-none_so_far t bs e = after_none (bytes_of t) ∙ ap (λ l. after l (bytes_of t)) (sym e)
+pub none_so_far : (t bs left : List ℕ) → bs ≡ [] → left ≡ after_blanks t → SoFar t bs left
+none_so_far t bs left e f = record {
+  is_bare = subst Bare (sym f) (bare t);
+  whole = sym (blanks_over t) ∙ after_none (bytes_of (after_blanks t)) ∙ ap (λ l. after l (bytes_of (after_blanks t))) (sym e) ∙ ap (λ l. after bs (bytes_of l)) (sym f);
+}
 
-pub blank_so_far : (t bs : List ℕ) (i : ℕ) → i < length t → true ≡ is_gap Blank (get_or t i 0) → SoFar t bs i → SoFar t bs (i + 1)
-blank_so_far t bs i h gap s =
-    s ∙ ap (after bs) (ap bytes_of (drop_more t i 0 h) ∙ blank_first (get_or t i 0) (drop (i + 1) t) gap)
+pub byte_so_far : (t bs cs left others next : List ℕ) (b : ℕ) → first_byte left ≡ Some b → others ≡ drop 2 left → cs ≡ bs ++ b ∷ [] → next ≡ after_blanks others →
+    SoFar t bs left → SoFar t cs next
+byte_so_far t bs cs left others next b e f more g s = record {
+  is_bare = subst Bare (sym g) (bare others);
+  whole =
+      s.whole ∙ ap (after bs) (byte_first left b s.is_bare e) ∙ after_followed bs b (bytes_of (drop 2 left)) ∙ ap (λ l. after l (bytes_of (drop 2 left))) (sym more)
+      ∙ ap (λ l. after cs (bytes_of l)) (sym f) ∙ ap (after cs) (sym (blanks_over others)) ∙ ap (λ l. after cs (bytes_of l)) (sym g);
+}
 
--- What is left after two bytes.
-two_on : (t : List ℕ) (i : ℕ) → drop 1 (drop (i + 1) t) ≡ drop (i + 2) t
-two_on t i = drop-drop 1 (i + 1) t ∙ ap (λ n. drop n t) (let e : i + 1 + 1 ≡ i + 2 = omega arith in e)
-
-pub byte_so_far : (t bs cs : List ℕ) (i b : ℕ) → i < length t → false ≡ is_gap Blank (get_or t i 0) → first_byte (drop i t) ≡ Some b →
-    cs ≡ bs ++ b ∷ [] → SoFar t bs i → SoFar t cs (i + 2)
-byte_so_far t bs cs i b h other e more s =
-    let first = byte_first (get_or t i 0) (drop (i + 1) t) b other (sym (ap first_byte (drop_more t i 0 h)) ∙ e) in
-    s ∙ ap (after bs) (ap bytes_of (drop_more t i 0 h) ∙ first ∙ ap (λ l. followed (Some b) (bytes_of l)) (two_on t i))
-    ∙ after_followed bs b (bytes_of (drop (i + 2) t)) ∙ ap (λ l. after l (bytes_of (drop (i + 2) t))) (sym more)
-
-pub bad_so_far : (t bs : List ℕ) (i : ℕ) → i < length t → false ≡ is_gap Blank (get_or t i 0) → first_byte (drop i t) ≡ None →
-    SoFar t bs i → bytes_of t ≡ None
-bad_so_far t bs i h other e s =
-    s ∙ ap (after bs) (ap bytes_of (drop_more t i 0 h) ∙ bad_first (get_or t i 0) (drop (i + 1) t) other (sym (ap first_byte (drop_more t i 0 h)) ∙ e))
+pub bad_so_far : (t bs left : List ℕ) → 0 < length left → first_byte left ≡ None → SoFar t bs left → bytes_of t ≡ None
+bad_so_far t bs left some e s = s.whole ∙ ap (after bs) (bad_first left s.is_bare some e)
 
 none_left : bytes_of [] ≡ Some []
 unfolding bytes_of
 none_left = refl
 
-pub all_so_far : (t bs : List ℕ) (i : ℕ) → length t ≤ i → SoFar t bs i → bytes_of t ≡ Some bs
-all_so_far t bs i h s =
-    s ∙ ap (after bs) (ap bytes_of (drop_all i t h) ∙ none_left) ∙ ap Some (append-nil bs)
+pub all_so_far : (t bs left : List ℕ) → length left ≡ 0 → SoFar t bs left → bytes_of t ≡ Some bs
+all_so_far t bs left h s =
+    s.whole ∙ ap (λ l. after bs (bytes_of l)) (nil_from_length left h) ∙ ap (after bs) none_left ∙ ap Some (append-nil bs)
+
+-- Two digits' bytes go, so less is left.
+blanks_fewer : (c n : ℕ) (cs : List ℕ) (gap : Bool) → length (after_blanks cs) ≤ n → length cs ≤ n → length (cond gap (after_blanks cs) (c ∷ cs)) ≤ n + 1
+blanks_fewer c n cs true h k = omega arith
+blanks_fewer c n cs false h k = omega arith
+
+fewer : (t : List ℕ) → length (after_blanks t) ≤ length t
+fewer [] = omega arith
+fewer (c ∷ cs) = let h : length (cond (is_gap Blank c) (after_blanks cs) (c ∷ cs)) ≤ length cs + 1 = blanks_fewer c (length cs) cs (is_gap Blank c) (fewer cs) (omega arith) in omega arith
+
+pub less_left : (left others next : List ℕ) → 0 < length left → others ≡ drop 2 left → next ≡ after_blanks others → length next < length left
+less_left left others next some f g =
+    omega (arith, ap length f, ap length g, fewer others, length-drop 2 left)
+
+pub bad_put : (r : Result (Unit {0}) Mistake) (bs : List ℕ) (o : Option (List ℕ)) → r ≡ Err BadSchedule → o ≡ None → Put r bs o
+bad_put r bs o e h = subst (λ x. Put x bs o) (sym e) h

@@ -1,11 +1,9 @@
 -- What each command comes to.
-use Rattle.std.specs.Prelude.{ℕ, Bool, true, false, cond, List, Ok, Err, Result}
+use Rattle.std.specs.Prelude.{ℕ, Bool, true, false, cond, List, Option, Ok, Err, Result}
 use Rattle.bus.specs.Store.{answer_at}
-use Rattle.bus.specs.Card.{trouble_number}
 use Rattle.bus.specs.Latch.{Latches, is_input, with_input}
 use Rattle.bus.specs.declared.cards.Trouble.TheVariants.{NoCard}
 use Rattle.cpu.specs.declared.faults.Fault.{Fault}
-use Rattle.cpu.specs.AddressRing.{pc_of}
 use Rattle.cpu.specs.Processor.{View}
 use Rattle.cpu.specs.Place.{Place, byte_in, writing, with_state}
 use Rattle.states.specs.declared.ticks.Levels.{Levels}
@@ -14,19 +12,20 @@ use Rattle.states.specs.Sequencing.{states_in_hand}
 use Rattle.states.specs.Situation.{Situation, situation}
 use Rattle.states.specs.Ticks.{ticked}
 use Rattle.stepper.specs.declared.feeds.Feed.{Feed}
-use Rattle.stepper.specs.declared.feeds.Stepped.{Stepped}
 use Rattle.stepper.specs.Steps.{stepped}
 use Rattle.agreement.specs.Calls.{Key, run, held}
 use Rattle.machine.specs.Holding.{at_start, key_after}
 use Rattle.runs.specs.declared.outcomes.Ran.{Ran}
 use Rattle.runs.specs.declared.refusals.ScheduleRefusal.{ScheduleRefusal}
 use Rattle.runs.specs.Runs.{ran}
+use Rattle.report.specs.Readouts.{readout_of}
 use Rattle.panel.specs.declared.answers.Answer.{Answer}
 use Rattle.panel.specs.declared.answers.Answer.TheVariants.{Ticked as TickedSo, Refused, Ran as RanSo, BadSchedule, Stepped as SteppedSo, Held as HeldSo, RefusedBy, Examined, Deposited, Latched, Holds, Mistaken}
 use Rattle.panel.specs.declared.holdings.Holding.{Holding}
 use Rattle.panel.specs.declared.commands.Command.{Command}
 use Rattle.panel.specs.declared.commands.Command.TheVariants.{Tick, Run, Step, Hold, Examine, Deposit, Release, Input, Registers, StepRegisters}
 use Rattle.panel.specs.declared.commands.Mistake.TheVariants.{IsHeld, IsNotHeld}
+use Rattle.panel.specs.declared.refusals.Refusal.TheVariants.{InsideInstruction, Port}
 use Rattle.panel.specs.Desk.{Desk, with_key, with_machine, with_beside}
 
 -- What a command answers, and the desk after it.
@@ -65,17 +64,17 @@ runs schedule d =
     where_running d.key d (outcome (run_told (ran schedule d.machine).answer) (with_machine d (ran schedule d.machine).after))
 
 -- A step of the processor beside it.
-abbrev pub step_told : Result Stepped Fault → Answer
+abbrev pub step_told : Result (Option ℕ) Fault → Answer
 step_told (Ok s) = SteppedSo s
 step_told (Err f) = Refused f
 
 abbrev pub steps : Feed → Desk → Outcome
 steps feed d = outcome (step_told (stepped feed d.beside).answer) (with_beside d (stepped feed d.beside).after)
 
--- A hold: granted at an instruction's start, and else refused by 4.
+-- A hold: granted at an instruction's start, and else refused.
 abbrev pub hold_told : Bool → Answer
 hold_told true = HeldSo true
-hold_told false = RefusedBy 4
+hold_told false = RefusedBy InsideInstruction
 
 abbrev pub holds : Desk → Outcome
 holds d =
@@ -107,18 +106,11 @@ latches port byte d = record {
 }
 
 abbrev pub inputs : ℕ → ℕ → Desk → Outcome
-inputs port byte d = outcome (cond (is_input port) (Latched port byte) (RefusedBy (trouble_number NoCard))) (latches port byte d)
+inputs port byte d = outcome (cond (is_input port) (Latched port byte) (RefusedBy (Port NoCard))) (latches port byte d)
 
 -- What a processor holds, and the states that its instruction has spent.
 abbrev pub holding : View → ℕ → Holding
-holding v in_hand = record {
-  registers = v.registers;
-  flags = v.flags;
-  pc = pc_of v.ring;
-  k = v.ring.number;
-  stopped = v.stopped;
-  hand = in_hand;
-}
+holding v in_hand = record { readout = readout_of v; stopped = v.stopped; hand = in_hand }
 
 abbrev pub machine_registers : Desk → Outcome
 machine_registers d = outcome (Holds (holding d.machine.place.processor (states_in_hand d.machine.hand))) d

@@ -4,25 +4,27 @@ use Rattle.isa.specs.declared.cycles.CycleKind.{CycleKind}
 use Rattle.isa.specs.declared.cycles.CycleKind.TheVariants.{Pci, Pcr, Pcw, Pcc}
 use Rattle.bus.specs.declared.stores.Written.{Written}
 use Rattle.bus.specs.declared.stores.Written.TheVariants.{Taken, Dropped}
+use Rattle.bus.specs.Card.{trouble_number}
 use Rattle.cpu.specs.declared.faults.Fault.{Fault}
 use Rattle.cpu.specs.declared.faults.Layer.{Layer}
 use Rattle.cpu.specs.declared.faults.Layer.TheVariants.{Decoder, PortCard}
 use Rattle.cpu.specs.Faults.{cause_number}
+use Rattle.states.specs.declared.tallies.Tally.{Tally}
 use Rattle.states.specs.declared.ticks.State.{State}
 use Rattle.states.specs.declared.ticks.State.TheVariants.{T1, T1I, T2, Wait, T3, T4, T5, Stopped as StoppedState}
 use Rattle.states.specs.declared.ticks.Ticked.{Ticked}
-use Rattle.stepper.specs.declared.feeds.Stepped.{Stepped}
-use Rattle.stepper.specs.declared.feeds.Stepped.TheVariants.{Stopped, Done}
 use Rattle.runs.specs.declared.outcomes.Ran.{Ran}
 use Rattle.runs.specs.declared.outcomes.RunFault.{RunFault}
 use Rattle.runs.specs.declared.refusals.ScheduleRefusal.{ScheduleRefusal}
 use Rattle.runs.specs.declared.refusals.ScheduleRefusal.TheVariants.{BadLength, OtherBits}
 use Rattle.runs.specs.Schedules.{refusal_number}
 use Rattle.report.specs.Digits.{hex2, hex4}
-use Rattle.report.specs.Line.{◌⧺◌, flag_digits, register_fields}
+use Rattle.report.specs.Line.{◌⧺◌, readout_text}
 use Rattle.panel.specs.declared.answers.Answer.{Answer}
 use Rattle.panel.specs.declared.answers.Answer.TheVariants.{Ticked as TickedSo, Refused, Ran as RanSo, BadSchedule as RefusedSchedule, Stepped as SteppedSo, Held, RefusedBy, Examined, Deposited, Latched, Holds, Mistaken}
 use Rattle.panel.specs.declared.holdings.Holding.{Holding}
+use Rattle.panel.specs.declared.refusals.Refusal.{Refusal}
+use Rattle.panel.specs.declared.refusals.Refusal.TheVariants.{InsideInstruction, Port}
 use Rattle.panel.specs.declared.commands.Mistake.{Mistake}
 use Rattle.panel.specs.declared.commands.Mistake.TheVariants.{NoSuchCommand, BadNumber, TooManyWords, BadSchedule, IsHeld, IsNotHeld, NoMemory}
 
@@ -63,10 +65,10 @@ fault_text f =
     codes "refused=" ⧺ decimal (cause_number f.cause) ⧺ codes " layer=" ⧺ layer_text f.layer ⧺ codes " pc=" ⧺ hex4 f.pc ⧺ codes " cycle=" ⧺ decimal f.cycle
 
 -- A run: its counts, the states in hand before and after it, and the fault that stopped it, with its tick.
-abbrev pub counts_text : Ran → List ℕ
-counts_text r =
-    codes "ticks=" ⧺ decimal r.accepted ⧺ codes " instructions=" ⧺ decimal r.instructions ⧺ codes " states=" ⧺ decimal r.table_states
-    ⧺ codes " waits=" ⧺ decimal r.waits ⧺ codes " idle=" ⧺ decimal r.idle
+abbrev pub counts_text : Tally → List ℕ
+counts_text t =
+    codes "ticks=" ⧺ decimal t.accepted ⧺ codes " instructions=" ⧺ decimal t.instructions ⧺ codes " states=" ⧺ decimal t.table_states
+    ⧺ codes " waits=" ⧺ decimal t.waits ⧺ codes " idle=" ⧺ decimal t.idle
 
 abbrev pub hands_text : Ran → List ℕ
 hands_text r = codes "before=" ⧺ decimal r.in_hand_before ⧺ codes " after=" ⧺ decimal r.in_hand_after
@@ -76,7 +78,7 @@ stop_text None = codes "fault=-"
 stop_text (Some f) = fault_text f.fault ⧺ codes " tick=" ⧺ decimal f.tick
 
 abbrev pub ran_text : Ran → List ℕ
-ran_text r = counts_text r ⧺ codes " " ⧺ hands_text r ⧺ codes " " ⧺ stop_text r.fault
+ran_text r = counts_text r.tally ⧺ codes " " ⧺ hands_text r ⧺ codes " " ⧺ stop_text r.fault
 
 -- A refused schedule.
 abbrev pub bad_tick_text : ScheduleRefusal → List ℕ
@@ -87,9 +89,9 @@ abbrev pub schedule_text : ScheduleRefusal → List ℕ
 schedule_text r = codes "refused=" ⧺ decimal (refusal_number r) ⧺ codes " tick=" ⧺ bad_tick_text r
 
 -- A step.
-abbrev pub stepped_text : Stepped → List ℕ
-stepped_text Stopped = codes "states=-"
-stepped_text (Done states) = codes "states=" ⧺ decimal states
+abbrev pub stepped_text : Option ℕ → List ℕ
+stepped_text None = codes "states=-"
+stepped_text (Some states) = codes "states=" ⧺ decimal states
 
 abbrev pub yes_or_no : Bool → List ℕ
 yes_or_no b = cond b (codes "yes") (codes "no")
@@ -110,9 +112,7 @@ abbrev pub halt_text : Holding → List ℕ
 halt_text h = codes "stopped=" ⧺ yes_or_no h.stopped ⧺ codes " hand=" ⧺ decimal h.hand
 
 abbrev pub holding_text : Holding → List ℕ
-holding_text h =
-    register_fields h.registers ⧺ codes " F=" ⧺ flag_digits h.flags ⧺ codes " PC=" ⧺ hex4 h.pc ⧺ codes " K=" ⧺ decimal h.k
-    ⧺ codes " " ⧺ halt_text h
+holding_text h = readout_text h.readout ⧺ codes " " ⧺ halt_text h
 
 -- A line that was not carried out, and why.
 abbrev pub reason_text : Mistake → List ℕ
@@ -127,6 +127,11 @@ reason_text NoMemory = codes "out of memory"
 abbrev pub mistake_text : Mistake → List ℕ
 mistake_text m = codes "error: " ⧺ reason_text m
 
+-- The number of a refused hold or input: 4 inside an instruction, and else that of its port's trouble.
+abbrev pub refused_number : Refusal → ℕ
+refused_number InsideInstruction = 4
+refused_number (Port trouble) = trouble_number trouble
+
 abbrev pub answer_text : Answer → List ℕ
 answer_text (TickedSo t) = ticked_text t
 answer_text (Refused f) = fault_text f
@@ -134,7 +139,7 @@ answer_text (RanSo r) = ran_text r
 answer_text (RefusedSchedule refusal) = schedule_text refusal
 answer_text (SteppedSo s) = stepped_text s
 answer_text (Held b) = codes "held=" ⧺ yes_or_no b
-answer_text (RefusedBy number) = codes "refused=" ⧺ decimal number
+answer_text (RefusedBy refusal) = codes "refused=" ⧺ decimal (refused_number refusal)
 answer_text (Examined address byte) = cell_text address byte
 answer_text (Deposited address byte w) = deposit_text address byte w
 answer_text (Latched port byte) = codes "port=" ⧺ hex2 port ⧺ codes " byte=" ⧺ hex2 byte

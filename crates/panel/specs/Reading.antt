@@ -6,8 +6,6 @@ use Rattle.panel.specs.declared.commands.Command.{Command}
 use Rattle.panel.specs.declared.commands.Command.TheVariants.{Tick, Run, Step, Hold, Examine, Deposit, Release, Input, Registers, StepRegisters}
 use Rattle.panel.specs.declared.commands.Mistake.{Mistake}
 use Rattle.panel.specs.declared.commands.Mistake.TheVariants.{NoSuchCommand, BadNumber, TooManyWords}
-use Rattle.panel.specs.declared.reading.Verb.{Verb}
-use Rattle.panel.specs.declared.reading.Verb.TheVariants.{Tick as TickVerb, Run as RunVerb, Step as StepVerb, Hold as HoldVerb, Examine as ExamineVerb, Deposit as DepositVerb, Release as ReleaseVerb, Input as InputVerb, Registers as RegistersVerb}
 use Rattle.panel.specs.Numbers.{at_most, number_of}
 use Rattle.panel.specs.Words.{no_word, rest_of, word_of}
 
@@ -80,6 +78,18 @@ input_of t = input_from (at_most 255 (number_of (word_of t))) (at_most 255 (numb
 abbrev pub registers_of : List ℕ → Reading
 registers_of t =
     cond (no_word t) (Ok Registers) (cond (bytes_eq (word_of t) (codes "step")) (without_more StepRegisters (rest_of t)) (Err TooManyWords))
+
+-- The first word of a command.
+pub data Verb : Type 0 where
+  TickVerb : Verb
+  RunVerb : Verb
+  StepVerb : Verb
+  HoldVerb : Verb
+  ExamineVerb : Verb
+  DepositVerb : Verb
+  ReleaseVerb : Verb
+  InputVerb : Verb
+  RegistersVerb : Verb
 
 -- The verb that a word is.
 abbrev pub verb_of : List ℕ → Option Verb

@@ -5,6 +5,7 @@ ghost use Rattle.panel.specs.Lines.{answer_text, cell_text, deposit_text, writte
 use crate::commands::Mistake;
 use crate::fault_fields::FaultFields;
 use crate::holdings::{Holding, yes_or_no};
+use crate::refusals::Refusal;
 use crate::run_fields::{RanFields, ScheduleFields};
 use crate::step_fields::{SteppedFields, TickedFields};
 use bus::Written;
@@ -13,10 +14,9 @@ use report::{Hex2, Hex4};
 use runs::{Ran, ScheduleRefusal};
 use states::Ticked;
 use std::fmt;
-use stepper::Stepped;
 
 // What came of a command. It is shown as one line of fields, which ends without a line feed.
-#[derive(Clone, Copy)]
+#[derive(Clone, Copy, PartialEq, Eq, Debug)]
 pub enum Answer {
     Ticked(Ticked),
     // A tick or a step was refused.
@@ -24,11 +24,12 @@ pub enum Answer {
     Ran(Ran),
     // The schedule of a run was refused.
     BadSchedule(ScheduleRefusal),
-    Stepped(Stepped),
-    // Whether the machine is held now.
+    // A step was made, of so many table states, if it carried out an instruction.
+    Stepped(Option<u8>),
+    // Whether the machine is held now: yes or no, as it is printed.
     Held(bool),
-    // A hold or an input was refused, with the refusal's number.
-    RefusedBy(u8),
+    // A hold or an input was refused.
+    RefusedBy(Refusal),
     // An address and its byte.
     Examined(u16, u8),
     // An address, a byte and what became of it there.
@@ -55,7 +56,7 @@ impl fmt::Display for Answer {
                 let held = yes_or_no(held);
                 write!(f, "held={held}")
             }
-            Answer::RefusedBy(number) => write!(f, "refused={number}"),
+            Answer::RefusedBy(refusal) => write!(f, "refused={}", refusal.number()),
             Answer::Examined(address, byte) => write!(f, "{}", CellFields(address, byte)),
             Answer::Deposited(address, byte, written) => {
                 write!(f, "{}", DepositFields(address, byte, written))
@@ -68,7 +69,7 @@ impl fmt::Display for Answer {
 }
 
 // An address and a byte.
-#[derive(Clone, Copy)]
+#[derive(Clone, Copy, PartialEq, Eq, Debug)]
 struct CellFields(u16, u8);
 
 impl fmt::Display for CellFields {
@@ -82,7 +83,7 @@ impl fmt::Display for CellFields {
 }
 
 // An address, a byte and what became of it there.
-#[derive(Clone, Copy)]
+#[derive(Clone, Copy, PartialEq, Eq, Debug)]
 struct DepositFields(u16, u8, Written);
 
 impl fmt::Display for DepositFields {
@@ -96,7 +97,7 @@ impl fmt::Display for DepositFields {
 }
 
 // What became of a write.
-#[derive(Clone, Copy)]
+#[derive(Clone, Copy, PartialEq, Eq, Debug)]
 struct Fate(Written);
 
 impl fmt::Display for Fate {

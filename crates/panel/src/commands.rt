@@ -1,12 +1,15 @@
 ghost use Rattle.std.specs.Prelude.{◌≡◌, Some};
 ghost use Rattle.panel.specs.Lines.{mistake_text, reason_text};
+ghost use Rattle.panel.specs.declared.commands.Mistake.TheVariants.{NoMemory};
 
 use states::Levels;
+use std::alloc::AllocFailed;
+use std::error::Error;
 use std::fmt;
 use stepper::Feed;
 
 // What a line asks for.
-#[derive(Clone, Copy)]
+#[derive(Clone, Copy, PartialEq, Eq, Debug)]
 pub enum Command {
     // One tick of the machine.
     Tick(Levels),
@@ -29,7 +32,7 @@ pub enum Command {
 }
 
 // Why a line is not carried out.
-#[derive(Clone, Copy)]
+#[derive(Clone, Copy, PartialEq, Eq, Debug)]
 pub enum Mistake {
     NoSuchCommand,
     // A number is missing, has another character than a digit or is too large.
@@ -45,6 +48,17 @@ pub enum Mistake {
     NoMemory,
 }
 
+// What found no memory is a mistake of its own.
+impl<T: Drop> From<AllocFailed<T>> for Mistake {
+    ghost from_gives = { λ _ mistake. mistake ≡ NoMemory };
+
+    fn from(_: AllocFailed<T>) -> Self {
+        Self::NoMemory
+    }
+}
+
+impl Error for Mistake {}
+
 impl fmt::Display for Mistake {
     ghost output = { λ mistake. Some (mistake_text mistake) };
 
@@ -54,6 +68,7 @@ impl fmt::Display for Mistake {
     }
 }
 
+// The reason by itself: apart from the text around it, so that its contract is a match on the mistakes.
 fn reason_of(mistake: Mistake) -> &'static str
     ensures { result.now ≡ reason_text mistake }
 {

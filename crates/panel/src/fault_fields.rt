@@ -22,6 +22,7 @@ impl fmt::Display for FaultFields {
     }
 }
 
+// The name of a layer. It belongs to another crate, so no `Display` for it can stand here.
 fn layer_text(layer: Layer) -> &'static str
     ensures { result.now ≡ layer_text layer }
 {

@@ -2,18 +2,13 @@
 ghost use Rattle.std.specs.Prelude.{◌≡◌, Some};
 ghost use Rattle.panel.specs.Lines.{halt_text, holding_text, yes_or_no};
 
-use isa::{Flags, Registers};
-use report::{FlagDigits, Hex4, RegisterFields};
+use report::Readout;
 use std::fmt;
 
-// What a processor holds, and the states that its instruction has spent.
-#[derive(Clone, Copy)]
+// What a processor shows, whether it is stopped, and the states that its instruction has spent.
+#[derive(Clone, Copy, PartialEq, Eq, Debug)]
 pub struct Holding {
-    pub registers: Registers,
-    pub flags: Flags,
-    pub pc: u16,
-    // The ring number.
-    pub k: u8,
+    pub readout: Readout,
     pub stopped: bool,
     pub hand: u8,
 }
@@ -22,20 +17,12 @@ impl fmt::Display for Holding {
     ghost output = { λ holding. Some (holding_text holding) };
 
     fn fmt<W: fmt::Write>(&self, f: &mut fmt::Formatter<W>) -> fmt::Result {
-        write!(
-            f,
-            "{} F={} PC={} K={} {}",
-            RegisterFields(self.registers),
-            FlagDigits(self.flags),
-            Hex4(self.pc),
-            self.k,
-            HaltFields(*self)
-        )
+        write!(f, "{} {}", self.readout, HaltFields(*self))
     }
 }
 
 // Whether a processor is stopped, and its states in hand.
-#[derive(Clone, Copy)]
+#[derive(Clone, Copy, PartialEq, Eq, Debug)]
 struct HaltFields(Holding);
 
 impl fmt::Display for HaltFields {
@@ -48,7 +35,7 @@ impl fmt::Display for HaltFields {
     }
 }
 
-// A word for each of two.
+// A word for each of two. No type of its own, since a crate can give a Display only to its own types.
 pub(crate) fn yes_or_no(so: bool) -> &'static str
     ensures { result.now ≡ yes_or_no so }
 {

@@ -1,217 +1,88 @@
 // The command of a line.
 ghost use Rattle.std.specs.Prelude.{◌≡◌};
-ghost use Rattle.panel.specs.Reading.{by_verb, command_of, deposit_from, deposit_of, examine_from, examine_of, input_from, input_of, level_of, registers_of, step_from, step_of, tick_from, tick_of, verb_of, without_more};
+ghost use Rattle.panel.specs.Reading.{by_verb, command_of, deposit_of, examine_of, input_of, registers_of, step_of, tick_of, verb_of};
 
 use crate::commands::{Command, Mistake};
-use crate::numbers::{number, number_to};
-use crate::words::{first_word, is_blank, is_word};
+use crate::words::{Words, first_word};
 use states::Levels;
 use stepper::Feed;
-
-// The first word of a command.
-#[derive(Clone, Copy)]
-pub(crate) enum Verb {
-    Tick,
-    Run,
-    Step,
-    Hold,
-    Examine,
-    Deposit,
-    Release,
-    Input,
-    Registers,
-}
 
 // The command of a line. What follows `run` is its schedule, which is read apart.
 pub fn read_command(line: &[u8]) -> Result<Command, Mistake>
     ensures { result ≡ command_of line.now }
 {
-    let (name, words) = first_word(line);
-    read_by_verb(verb_of(name), words)
+    let (name, others) = first_word(line);
+    read_named(name, Words { text: others })
 }
 
-// The verb that a word is, if it is one.
-fn verb_of(name: &[u8]) -> Option<Verb>
-    ensures { result ≡ verb_of name.now }
+// The command of this name, with the words that follow it.
+fn read_named(name: &[u8], words: Words<'_>) -> Result<Command, Mistake>
+    ensures { result ≡ by_verb (verb_of name.now) words.entry.text.now }
 {
-    if is_word(name, b"tick") {
-        Some(Verb::Tick)
-    } else if is_word(name, b"run") {
-        Some(Verb::Run)
-    } else if is_word(name, b"step") {
-        Some(Verb::Step)
-    } else if is_word(name, b"hold") {
-        Some(Verb::Hold)
-    } else if is_word(name, b"examine") {
-        Some(Verb::Examine)
-    } else if is_word(name, b"deposit") {
-        Some(Verb::Deposit)
-    } else if is_word(name, b"release") {
-        Some(Verb::Release)
-    } else if is_word(name, b"input") {
-        Some(Verb::Input)
-    } else if is_word(name, b"registers") {
-        Some(Verb::Registers)
-    } else {
-        None
+    match name {
+        b"tick" => read_tick(words),
+        b"run" => Ok(Command::Run),
+        b"step" => read_step(words),
+        b"hold" => words.complete(Command::Hold),
+        b"examine" => read_examine(words),
+        b"deposit" => read_deposit(words),
+        b"release" => words.complete(Command::Release),
+        b"input" => read_input(words),
+        b"registers" => read_registers(words),
+        _ => Err(Mistake::NoSuchCommand),
     }
 }
 
-// The command of a verb and the words that follow it.
-fn read_by_verb(verb: Option<Verb>, words: &[u8]) -> Result<Command, Mistake>
-    ensures { result ≡ by_verb verb words.now }
+fn read_tick(mut words: Words<'_>) -> Result<Command, Mistake>
+    ensures { result ≡ tick_of words.entry.text.now }
 {
-    match verb {
-        Some(Verb::Tick) => read_tick(words),
-        Some(Verb::Run) => Ok(Command::Run),
-        Some(Verb::Step) => read_step(words),
-        Some(Verb::Hold) => without_more(Command::Hold, words),
-        Some(Verb::Examine) => read_examine(words),
-        Some(Verb::Deposit) => read_deposit(words),
-        Some(Verb::Release) => without_more(Command::Release, words),
-        Some(Verb::Input) => read_input(words),
-        Some(Verb::Registers) => read_registers(words),
-        None => Err(Mistake::NoSuchCommand),
-    }
+    let ready = words.level()?;
+    let int = words.level()?;
+    let jam = words.byte()?;
+    words.complete(Command::Tick(Levels { ready, int, jam }))
 }
 
-// A command, if no word follows it.
-fn without_more(command: Command, words: &[u8]) -> Result<Command, Mistake>
-    ensures { result ≡ without_more command words.now }
+fn read_step(mut words: Words<'_>) -> Result<Command, Mistake>
+    ensures { result ≡ step_of words.entry.text.now }
 {
-    if is_blank(words) {
-        Ok(command)
-    } else {
-        Err(Mistake::TooManyWords)
-    }
-}
-
-fn read_tick(words: &[u8]) -> Result<Command, Mistake>
-    ensures { result ≡ tick_of words.now }
-{
-    let (ready, words) = first_word(words);
-    let (int, words) = first_word(words);
-    let (jam, words) = first_word(words);
-    let ready = to_level(number_to(ready, 1));
-    let int = to_level(number_to(int, 1));
-    make_tick(ready, int, number_to(jam, 255), words)
-}
-
-fn make_tick(
-    ready: Option<bool>,
-    int: Option<bool>,
-    jam: Option<u8>,
-    words: &[u8],
-) -> Result<Command, Mistake>
-    ensures { result ≡ tick_from ready int jam words.now }
-{
-    let Some(ready) = ready else {
-        return Err(Mistake::BadNumber);
-    };
-    let Some(int) = int else {
-        return Err(Mistake::BadNumber);
-    };
-    let Some(jam) = jam else {
-        return Err(Mistake::BadNumber);
-    };
-    without_more(Command::Tick(Levels { ready, int, jam }), words)
-}
-
-// The level of a line: high for 1, low for any other number.
-fn to_level(number: Option<u8>) -> Option<bool>
-    ensures { result ≡ level_of number }
-{
-    match number {
-        Some(number) => Some(number == 1),
-        None => None,
-    }
-}
-
-fn read_step(words: &[u8]) -> Result<Command, Mistake>
-    ensures { result ≡ step_of words.now }
-{
-    if is_blank(words) {
+    if words.is_over() {
         return Ok(Command::Step(Feed::Own));
     }
-    let (jam, words) = first_word(words);
-    make_step(number_to(jam, 255), words)
+    let jam = words.byte()?;
+    words.complete(Command::Step(Feed::Jam(jam)))
 }
 
-fn make_step(jam: Option<u8>, words: &[u8]) -> Result<Command, Mistake>
-    ensures { result ≡ step_from jam words.now }
+fn read_examine(mut words: Words<'_>) -> Result<Command, Mistake>
+    ensures { result ≡ examine_of words.entry.text.now }
 {
-    match jam {
-        Some(jam) => without_more(Command::Step(Feed::Jam(jam)), words),
-        None => Err(Mistake::BadNumber),
-    }
+    let address = words.address()?;
+    words.complete(Command::Examine(address))
 }
 
-fn read_examine(words: &[u8]) -> Result<Command, Mistake>
-    ensures { result ≡ examine_of words.now }
+fn read_deposit(mut words: Words<'_>) -> Result<Command, Mistake>
+    ensures { result ≡ deposit_of words.entry.text.now }
 {
-    let (address, words) = first_word(words);
-    make_examine(number(address), words)
+    let address = words.address()?;
+    let byte = words.byte()?;
+    words.complete(Command::Deposit(address, byte))
 }
 
-fn make_examine(address: Option<u16>, words: &[u8]) -> Result<Command, Mistake>
-    ensures { result ≡ examine_from address words.now }
+fn read_input(mut words: Words<'_>) -> Result<Command, Mistake>
+    ensures { result ≡ input_of words.entry.text.now }
 {
-    match address {
-        Some(address) => without_more(Command::Examine(address), words),
-        None => Err(Mistake::BadNumber),
-    }
+    let port = words.byte()?;
+    let byte = words.byte()?;
+    words.complete(Command::Input(port, byte))
 }
 
-fn read_deposit(words: &[u8]) -> Result<Command, Mistake>
-    ensures { result ≡ deposit_of words.now }
+fn read_registers(mut words: Words<'_>) -> Result<Command, Mistake>
+    ensures { result ≡ registers_of words.entry.text.now }
 {
-    let (address, words) = first_word(words);
-    let (byte, words) = first_word(words);
-    make_deposit(number(address), number_to(byte, 255), words)
-}
-
-fn make_deposit(address: Option<u16>, byte: Option<u8>, words: &[u8]) -> Result<Command, Mistake>
-    ensures { result ≡ deposit_from address byte words.now }
-{
-    let Some(address) = address else {
-        return Err(Mistake::BadNumber);
-    };
-    let Some(byte) = byte else {
-        return Err(Mistake::BadNumber);
-    };
-    without_more(Command::Deposit(address, byte), words)
-}
-
-fn read_input(words: &[u8]) -> Result<Command, Mistake>
-    ensures { result ≡ input_of words.now }
-{
-    let (port, words) = first_word(words);
-    let (byte, words) = first_word(words);
-    make_input(number_to(port, 255), number_to(byte, 255), words)
-}
-
-fn make_input(port: Option<u8>, byte: Option<u8>, words: &[u8]) -> Result<Command, Mistake>
-    ensures { result ≡ input_from port byte words.now }
-{
-    let Some(port) = port else {
-        return Err(Mistake::BadNumber);
-    };
-    let Some(byte) = byte else {
-        return Err(Mistake::BadNumber);
-    };
-    without_more(Command::Input(port, byte), words)
-}
-
-fn read_registers(words: &[u8]) -> Result<Command, Mistake>
-    ensures { result ≡ registers_of words.now }
-{
-    if is_blank(words) {
+    if words.is_over() {
         return Ok(Command::Registers);
     }
-    let (which, words) = first_word(words);
-    if is_word(which, b"step") {
-        without_more(Command::StepRegisters, words)
-    } else {
-        Err(Mistake::TooManyWords)
+    match words.next_word() {
+        b"step" => words.complete(Command::StepRegisters),
+        _ => Err(Mistake::TooManyWords),
     }
 }

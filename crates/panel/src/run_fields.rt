@@ -4,6 +4,7 @@ ghost use Rattle.panel.specs.Lines.{bad_tick_text, counts_text, hands_text, ran_
 
 use crate::fault_fields::FaultFields;
 use runs::{Ran, RunFault, ScheduleRefusal};
+use states::Tally;
 use std::fmt;
 
 // What a run came to.
@@ -15,23 +16,29 @@ impl fmt::Display for RanFields {
 
     fn fmt<W: fmt::Write>(&self, f: &mut fmt::Formatter<W>) -> fmt::Result {
         let ran = self.0;
-        write!(f, "{} {} {}", Counts(ran), Hands(ran), Stop(ran.fault))
+        write!(
+            f,
+            "{} {} {}",
+            Counts(ran.tally),
+            Hands(ran),
+            Stop(ran.fault)
+        )
     }
 }
 
 // The ticks accepted, the instructions that ended and their table states, waits and idle states.
 #[derive(Clone, Copy)]
-struct Counts(Ran);
+struct Counts(Tally);
 
 impl fmt::Display for Counts {
     ghost output = { λ fields. Some (counts_text fields.0) };
 
     fn fmt<W: fmt::Write>(&self, f: &mut fmt::Formatter<W>) -> fmt::Result {
-        let ran = self.0;
+        let tally = self.0;
         write!(
             f,
             "ticks={} instructions={} states={} waits={} idle={}",
-            ran.accepted, ran.instructions, ran.table_states, ran.waits, ran.idle
+            tally.accepted, tally.instructions, tally.table_states, tally.waits, tally.idle
         )
     }
 }

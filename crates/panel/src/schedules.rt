@@ -1,13 +1,14 @@
 // The schedule of a run.
-ghost use Rattle.std.specs.Prelude.{◌≡◌, ◌<◌, [], length, drop, IfSome};
-ghost use Rattle.panel.specs.Schedules.{Put, first_byte, paired, schedule_of, bytes_of};
+ghost use Rattle.std.specs.Prelude.{◌≡◌, [], drop, MatchResult, None, Some};
+ghost use Rattle.panel.specs.Numbers.{digit_of};
+ghost use Rattle.panel.specs.Schedules.{Put, bytes_of, first_byte, paired, schedule_of};
 
 use crate::commands::Mistake;
 use crate::numbers::digit_value;
-use crate::words::{Gap, first_word, is_gap};
+use crate::words::{first_word, skip_blanks};
 
 // Puts the schedule of a line of `run` into `schedule`, in the place of what it held: each two digits in a row are
-// a byte, and blanks may stand between bytes.
+// a byte, and blanks may stand between bytes. The buffer is lent, so that a schedule as long as the last needs no memory.
 pub fn read_schedule(line: &[u8], schedule: &mut Vec<u8>) -> Result<(), Mistake>
     ensures { Put result schedule.new.items (schedule_of line.now) }
 {
@@ -21,45 +22,29 @@ fn read_bytes(text: &[u8], bytes: &mut Vec<u8>) -> Result<(), Mistake>
     requires { bytes.old.items ≡ [] }
     ensures { Put result bytes.new.items (bytes_of text.now) }
 {
-    let mut at = 0;
-    while at < text.len() {
-        if is_gap(Gap::Blank, text[at]) {
-            at += 1;
-        } else {
-            let byte = match byte_at(text, at) {
-                Some(byte) => byte,
-                None => return Err(Mistake::BadSchedule),
-            };
-            match bytes.push(byte) {
-                Ok(()) => at += 2,
-                Err(_) => return Err(Mistake::NoMemory),
-            }
-        }
+    let mut left = skip_blanks(text);
+    while !left.is_empty() {
+        let (byte, others) = split_byte(left)?;
+        bytes.push(byte)?;
+        left = skip_blanks(others);
     }
     Ok(())
 }
 
-// The byte whose two digits begin at a place of the text.
-fn byte_at(text: &[u8], place: usize) -> Option<u8>
-    requires { place < length text.now }
-    ensures { result ≡ first_byte (drop place text.now) }
+// The byte whose two digits a text begins with, and what follows them.
+fn split_byte(text: &[u8]) -> Result<(u8, &[u8]), Mistake>
+    ensures { MatchResult result (λ cut. (first_byte text.now ≡ Some cut.0) × (cut.1.now ≡ drop 2 text.now)) (λ mistake. (mistake ≡ Mistake.BadSchedule) × (first_byte text.now ≡ None)) }
 {
-    if text.len() - place < 2 {
-        return None;
-    }
-    pair(digit_value(text[place]), digit_value(text[place + 1]))
+    let [high, low, others @ ..] = text else {
+        return Err(Mistake::BadSchedule);
+    };
+    let byte = pair(*high, *low).ok_or(Mistake::BadSchedule)?;
+    Ok((byte, others))
 }
 
 // The byte of two digits.
-fn pair(high: Option<u8>, low: Option<u8>) -> Option<u8>
-    requires { (IfSome high (λ v. v < 16)) × (IfSome low (λ v. v < 16)) }
-    ensures { result ≡ paired high low }
+fn pair(high: u8, low: u8) -> Option<u8>
+    ensures { result ≡ paired (digit_of high) (digit_of low) }
 {
-    let Some(high) = high else {
-        return None;
-    };
-    let Some(low) = low else {
-        return None;
-    };
-    Some(high * 16 + low)
+    Some(digit_value(high)? * 16 + digit_value(low)?)
 }

@@ -1,12 +1,12 @@
 // The settings among the program's arguments.
 ghost use Rattle.std.specs.Prelude.{◌≡◌, drop};
-ghost use Rattle.panel.specs.Settings.{fit_from, fixed_from, latch_from, latch_of, setting_named, setting_of, unfit_from};
+ghost use Rattle.panel.specs.Settings.{latch_of, setting_named, setting_of};
 
 use crate::numbers::{number, number_to};
-use crate::words::{Gap, cut, is_word};
+use crate::words::{Gap, cut};
 
 // What a word of the program's arguments sets.
-#[derive(Clone, Copy)]
+#[derive(Clone, Copy, PartialEq, Eq, Debug)]
 pub enum Setting {
     // The count of fixed cells.
     Fixed(u16),
@@ -30,16 +30,12 @@ pub fn read_setting(word: &[u8]) -> Option<Setting>
 fn read_value(name: &[u8], value: &[u8]) -> Option<Setting>
     ensures { result ≡ setting_named name.now value.now }
 {
-    if is_word(name, b"fixed") {
-        make_fixed(number(value))
-    } else if is_word(name, b"input") {
-        read_latch(value)
-    } else if is_word(name, b"fit") {
-        make_fit(number_to(value, 31))
-    } else if is_word(name, b"unfit") {
-        make_unfit(number_to(value, 31))
-    } else {
-        None
+    match name {
+        b"fixed" => number(value).map(Setting::Fixed),
+        b"input" => read_latch(value),
+        b"fit" => number_to(value, 31).map(Setting::Fit),
+        b"unfit" => number_to(value, 31).map(Setting::Unfit),
+        _ => None,
     }
 }
 
@@ -48,51 +44,17 @@ fn read_latch(value: &[u8]) -> Option<Setting>
     ensures { result ≡ latch_of value.now }
 {
     let (port, byte) = cut(value, Gap::Mark(b':'));
-    make_latch(number_to(port, 7), number_to(after_mark(byte), 255))
+    let port = number_to(port, 7)?;
+    let byte = number_to(after_mark(byte), u8::MAX)?;
+    Some(Setting::Input(port, byte))
 }
 
 // A text without the mark that it begins with.
 fn after_mark(text: &[u8]) -> &[u8]
     ensures { result.now ≡ drop 1 text.now }
 {
-    if text.is_empty() { text } else { &text[1..] }
-}
-
-fn make_fixed(count: Option<u16>) -> Option<Setting>
-    ensures { result ≡ fixed_from count }
-{
-    match count {
-        Some(count) => Some(Setting::Fixed(count)),
-        None => None,
-    }
-}
-
-fn make_latch(port: Option<u8>, byte: Option<u8>) -> Option<Setting>
-    ensures { result ≡ latch_from port byte }
-{
-    let Some(port) = port else {
-        return None;
-    };
-    let Some(byte) = byte else {
-        return None;
-    };
-    Some(Setting::Input(port, byte))
-}
-
-fn make_fit(port: Option<u8>) -> Option<Setting>
-    ensures { result ≡ fit_from port }
-{
-    match port {
-        Some(port) => Some(Setting::Fit(port)),
-        None => None,
-    }
-}
-
-fn make_unfit(port: Option<u8>) -> Option<Setting>
-    ensures { result ≡ unfit_from port }
-{
-    match port {
-        Some(port) => Some(Setting::Unfit(port)),
-        None => None,
+    match text {
+        [_, value @ ..] => value,
+        [] => text,
     }
 }

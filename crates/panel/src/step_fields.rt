@@ -5,7 +5,6 @@ ghost use Rattle.panel.specs.Lines.{kind_text, number_text, state_text, stepped_
 use isa::CycleKind;
 use states::{State, Ticked};
 use std::fmt;
-use stepper::Stepped;
 
 // An accepted tick: its state, the number and the kind of its cycle, and the table states of the instruction that
 // it ended.
@@ -26,16 +25,14 @@ impl fmt::Display for TickedFields {
 
 // A step that was not refused: its table states, or a dash where a stopped processor did nothing.
 #[derive(Clone, Copy)]
-pub(crate) struct SteppedFields(pub Stepped);
+pub(crate) struct SteppedFields(pub Option<u8>);
 
 impl fmt::Display for SteppedFields {
     ghost output = { λ fields. Some (stepped_text fields.0) };
 
     fn fmt<W: fmt::Write>(&self, f: &mut fmt::Formatter<W>) -> fmt::Result {
-        match self.0 {
-            Stepped::Done(states) => write!(f, "states={states}"),
-            Stepped::Stopped => f.write_str("states=-"),
-        }
+        let states = Number(self.0);
+        write!(f, "states={states}")
     }
 }
 
@@ -54,6 +51,7 @@ impl fmt::Display for Number {
     }
 }
 
+// The name of a state. It belongs to another crate, so no `Display` for it can stand here.
 fn state_text(state: State) -> &'static str
     ensures { result.now ≡ state_text state }
 {
@@ -69,6 +67,7 @@ fn state_text(state: State) -> &'static str
     }
 }
 
+// The name of a cycle's kind, of another crate too, or a dash where there is none.
 fn kind_text(kind: Option<CycleKind>) -> &'static str
     ensures { result.now ≡ kind_text kind }
 {

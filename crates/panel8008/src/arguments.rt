@@ -1,34 +1,35 @@
+use crate::refusals::Refusal;
 use bus::LatchCard;
 use panel::{Setting, read_setting};
-use std::{env, io};
+use std::env;
 
-// What the words after the tape's path set: the count of fixed cells, and the port card.
-#[derive(Clone, Copy)]
-pub struct Settings {
+// What the program's arguments say: the tape's path, the count of fixed cells, and the port card.
+#[derive(Drop)]
+pub struct Arguments {
+    pub tape: String,
     pub fixed: usize,
     pub card: LatchCard,
 }
 
-// Reads the program's arguments: the tape's path, then settings. Where they are bad it says so, and answers false.
-pub fn read(rt: &HostRuntime, tape: &mut String, settings: &mut Settings) -> io::Result<bool> {
+// Reads the program's arguments: the tape's path, then settings.
+pub fn read(rt: &HostRuntime) -> Result<Arguments, Refusal> {
     let mut words = env::args(rt)?;
     let _ = words.next();
-    let Some(path) = words.next() else {
-        rt.println("error: no tape is named")?;
-        return Ok(false);
+    let mut arguments = Arguments {
+        tape: words.next().ok_or(Refusal::NoTapeNamed)?,
+        fixed: 0,
+        card: LatchCard::new(),
     };
-    tape.push_str(&path)?;
     for word in words {
         let Some(setting) = read_setting(word.as_bytes()) else {
-            println!(rt; "error: no such setting: {word}")?;
-            return Ok(false);
+            return Err(Refusal::NoSuchSetting(word));
         };
-        settings.take(setting);
+        arguments.take(setting);
     }
-    Ok(true)
+    Ok(arguments)
 }
 
-impl Settings {
+impl Arguments {
     // Takes a setting over. The ports of a setting are such as the card has.
     fn take(&mut self, setting: Setting) {
         match setting {

@@ -1,25 +1,23 @@
 use bus::FlatStore;
-use panel::{Answer, Command, Key, Panel, is_blank, read_command, read_schedule};
+use panel::{Answer, Command, Key, Mistake, Panel, is_blank, read_command, read_schedule};
 use std::io;
-use std::io::{BufRead, BufReader};
+use std::io::{BufRead, BufReader, Stdin};
 
-// Carries out the commands of standard input, up to its end, and answers the key that is then in hand. A failed read or
-// write ends it early, and where there is no memory to read into, no command is carried out.
-pub fn converse(rt: &HostRuntime, panel: &mut Panel<FlatStore>, key: Key) -> (Key, io::Result<()>) {
-    let mut input = match BufReader::new(rt.alloc(), rt.stdin()) {
-        Ok(input) => input,
-        Err(error) => return (key, Err(error)),
-    };
-    let mut line = Vec::new(rt.alloc());
+// Carries out the commands of the input, up to its end, and answers the key that is then in hand. A failed read or
+// write ends it early. The key has to come back then too, so no `?` takes the error out.
+pub fn converse(
+    rt: &HostRuntime,
+    input: BufReader<Stdin>,
+    panel: &mut Panel<FlatStore>,
+    key: Key,
+) -> (Key, io::Result<()>) {
     let mut schedule = Vec::new(rt.alloc());
     let mut key = key;
-    for _ in 0..u64::MAX {
-        line.clear();
-        match input.read_until(b'\n', &mut line) {
-            Ok(0) => break,
-            Ok(_) => {}
+    for line in input.split(rt.alloc(), b'\n') {
+        let line = match line {
+            Ok(line) => line,
             Err(error) => return (key, Err(error)),
-        }
+        };
         if is_blank(&line) {
             continue;
         }
@@ -36,19 +34,22 @@ pub fn converse(rt: &HostRuntime, panel: &mut Panel<FlatStore>, key: Key) -> (Ke
 fn answer_line(
     panel: &mut Panel<FlatStore>,
     key: Key,
-    line: &Vec<u8>,
+    line: &[u8],
     schedule: &mut Vec<u8>,
 ) -> (Key, Answer) {
-    let command = match read_command(line) {
-        Ok(command) => command,
-        Err(mistake) => return (key, Answer::Mistaken(mistake)),
-    };
-    if let Command::Run = command {
-        if let Err(mistake) = read_schedule(line, schedule) {
-            return (key, Answer::Mistaken(mistake));
-        }
+    match read_line(line, schedule) {
+        Ok(command) => panel.execute(key, command, schedule),
+        Err(mistake) => (key, Answer::Mistaken(mistake)),
     }
-    panel.execute(key, command, schedule)
+}
+
+// The command of a line. The schedule of a run is put into `schedule`.
+fn read_line(line: &[u8], schedule: &mut Vec<u8>) -> Result<Command, Mistake> {
+    let command = read_command(line)?;
+    if let Command::Run = command {
+        read_schedule(line, schedule)?;
+    }
+    Ok(command)
 }
 
 // Gives the key back for good. A held machine is released first.
@@ -56,7 +57,7 @@ pub fn put_down(panel: &Panel<FlatStore>, key: Key) {
     match key {
         Key::Run(_) => {}
         Key::Held(key) => {
-            let _ = panel.machine.release(key, &panel.store, &panel.card);
+            let _ = panel.machine.release(key, &panel.board);
         }
     }
 }

@@ -1,20 +1,27 @@
-use Rattle.std.proofs.Common.{vec_items, sym}
-use Rattle.panel.proofs.Pairs.{all_so_far, bad_so_far, blank_so_far, byte_so_far}
+use Rattle.std.proofs.Common.{rules, ◌≡◌, ◌<◌, length, Err}
+use Rattle.panel.specs.declared.commands.Mistake.TheVariants.{BadSchedule}
+use Rattle.panel.proofs.Pairs.{all_so_far, bad_put, bad_so_far, byte_so_far, less_left, none_so_far}
 use Rattle.panel.proofs.schedules.read_bytes.Goals as goal
 
-pub loop-at-preserved-then-is_gap : goal.loop-at-preserved-then-is_gap
-loop-at-preserved-then-is_gap c =
-    blank_so_far c.args.text.now (vec_items c.loop-at.bytes) c.loop-at.at c.loop-at-test.true c.if-is_gap.ensures c.loop-at.invariant
+pub loop-left-init : goal.loop-left-init
+loop-left-init c = none_so_far c.args.text.now _ _ c.requires c.skip_blanks-left.ensures
 
-pub returns-in-None : goal.returns-in-None
-returns-in-None c =
-    bad_so_far c.args.text.now (vec_items c.loop-at.bytes) c.loop-at.at c.loop-at-test.true c.if-is_gap.ensures
-    (sym c.in-None.ensures) c.loop-at.invariant
+pub loop-left-smaller : goal.loop-left-smaller
+loop-left-smaller c =
+    let some : 0 < length c.loop-left.left.now = search rules in
+    less_left _ _ _ some c.in_ok-byte.ensures.1 c.skip_blanks-left-in-loop-left.ensures
+
+pub loop-left-preserved : goal.loop-left-preserved
+loop-left-preserved c =
+    byte_so_far _ _ _ _ _ _ _ c.in_ok-byte.ensures.0 c.in_ok-byte.ensures.1 c.in_ok-push.ensures.items c.skip_blanks-left-in-loop-left.ensures c.loop-left.invariant
+
+pub returns-in_err-byte : goal.returns-in_err-byte
+returns-in_err-byte c =
+    let some : 0 < length c.loop-left.left.now = search rules in
+    let bad : c.from_residual.result ≡ Err BadSchedule = search rules in
+    bad_put _ _ _ bad (bad_so_far _ _ _ some c.in_err-byte.ensures.1 c.loop-left.invariant)
 
 pub returns : goal.returns
-returns c = all_so_far c.args.text.now (vec_items c.loop-at.bytes) c.loop-at.at c.loop-at-test.false c.loop-at.invariant
-
-pub loop-at-preserved : goal.loop-at-preserved
-loop-at-preserved c =
-    byte_so_far c.args.text.now (vec_items c.loop-at.bytes) _ c.loop-at.at _ c.loop-at-test.true c.if-is_gap.ensures
-    (sym c.in-Some.ensures) c.in-Ok.ensures.items c.loop-at.invariant
+returns c =
+    let none : length c.loop-left.left.now ≡ 0 = search rules in
+    all_so_far _ _ _ none c.loop-left.invariant
