@@ -7,9 +7,9 @@ ghost use Rattle.bus.specs.Card.{Rules, input_of, output_of, trouble_number};
 #[derive(Clone, Copy, PartialEq, Eq, Debug)]
 pub enum Trouble {
     // No card answers at this port and way.
-    NoCard,
+    NoCard = 1,
     // A card answers there, and has no more to give or no more room.
-    Spent,
+    Spent = 2,
 }
 
 impl Trouble {
@@ -17,10 +17,7 @@ impl Trouble {
     pub fn number(self) -> u8
         ensures { result ≡ trouble_number self }
     {
-        match self {
-            Trouble::NoCard => 1,
-            Trouble::Spent => 2,
-        }
+        self as u8
     }
 }
 

@@ -19,7 +19,7 @@ impl AddressRing {
         ensures value { result ≡ pc_of (ring_of self.now) }
         ensures fourteen_bits { result < 16384 }
     {
-        self.registers[self.number as usize]
+        self.registers[usize::from(self.number)]
     }
 
     // The ring number, 0 to 7.
@@ -76,7 +76,7 @@ impl AddressRing {
         ensures { ring_of result ≡ with_pc (ring_of self) number address }
     {
         let mut registers = self.registers;
-        registers[number as usize] = address % 16384;
+        registers[usize::from(number)] = address % 16384;
         AddressRing { registers, number }
     }
 }

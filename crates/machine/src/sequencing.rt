@@ -1,7 +1,7 @@
 ghost use Rattle.std.specs.Prelude.{◌≡◌, true};
 ghost use Rattle.states.specs.Sequencing.{next_cycle, following, hand_after, sound, sound_up_to};
 
-use isa::{Cycle, Instruction};
+use isa::Cycle;
 use states::{Following, Phase, Underway};
 
 // What follows the state that comes next.
@@ -17,28 +17,28 @@ pub(crate) fn what_follows(work: &Underway) -> Following
         Phase::T3 => if states > 3 {
             Following::Phase(Phase::T4)
         } else {
-            next_cycle(work.instruction, work.taken, work.cycle)
+            next_cycle(work)
         },
         Phase::T4 => if states > 4 {
             Following::Phase(Phase::T5)
         } else {
-            next_cycle(work.instruction, work.taken, work.cycle)
+            next_cycle(work)
         },
-        Phase::T5 => next_cycle(work.instruction, work.taken, work.cycle),
+        Phase::T5 => next_cycle(work),
     }
 }
 
 // What follows a cycle.
-fn next_cycle(instruction: Instruction, taken: bool, cycle: Cycle) -> Following
-    ensures { result ≡ next_cycle instruction taken cycle }
+fn next_cycle(work: &Underway) -> Following
+    ensures { result ≡ next_cycle work.now.instruction work.now.taken work.now.cycle }
 {
-    match cycle {
-        Cycle::First => if instruction.states(taken, Cycle::Second) > 0 {
+    match work.cycle {
+        Cycle::First => if work.instruction.states(work.taken, Cycle::Second) > 0 {
             Following::Cycle(Cycle::Second)
         } else {
             Following::End
         },
-        Cycle::Second => if instruction.states(taken, Cycle::Third) > 0 {
+        Cycle::Second => if work.instruction.states(work.taken, Cycle::Third) > 0 {
             Following::Cycle(Cycle::Third)
         } else {
             Following::End

@@ -90,7 +90,8 @@ impl<'a> ShiftStore<'a> {
     }
 
     // Sets the cell at an address, which the ring has. The head stands there.
-    // Apart from `write`, where the proof that the other cells stay did not close.
+    // Apart from `write`, where the proof that the other cells stay did not close: by the head or by the place, before or
+    // after the head turns, or with lemmas.
     fn put(&mut self, address: u16, byte: u8)
         requires in_ring { has_cell self.old address ≡ true }
         requires at_cell { head_of self.old ≡ place_of (address % 16384) }
@@ -116,6 +117,7 @@ impl Store for ShiftStore<'_> {
         ensures frame_kept { shift_frame self.new ≡ shift_frame self.old }
         ensures head { head_of self.new ≡ head_after self.old address }
     {
+        // By a match: where a closure reads the lent bytes, a proof loses what the others hold.
         match self.seek(address) {
             Some(place) => self.bytes[place],
             None => 255,
