@@ -1,6 +1,5 @@
 -- A schedule, tick by tick: what is left of it begins with the two bytes of the next tick.
-use Rattle.std.proofs.Common.{◌≡◌, ℕ, ◌+◌, ◌-◌, ◌*◌, ◌/◌, ◌<◌, ◌≤◌, true, false, cond, List, [], ◌∷◌, ◌++◌, length, get_or, slice_index, take, drop, Ok, Err, sym, refl, ap, ◌∙◌, arith}
-use Rattle.std.proofs.Math.Seq.{take-length}
+use Rattle.std.proofs.Common.{◌≡◌, ℕ, ◌+◌, ◌*◌, ◌/◌, ◌<◌, ◌≤◌, true, false, cond, List, [], ◌∷◌, ◌++◌, length, get_or, slice_index, drop, Ok, Err, refl, ap, ◌∙◌, arith}
 use Rattle.std.proofs.lemmas.List.{drop_more, length-drop}
 use Rattle.runs.specs.declared.refusals.ScheduleRefusal.TheVariants.{OtherBits}
 use Rattle.runs.specs.Schedules.{levels_at, levels_of, other_bits, bits_judged}
@@ -21,15 +20,14 @@ pub levels_more : (bytes : List ℕ) (i : ℕ) → i < length bytes / 2 →
 unfolding levels_of
 levels_more bytes i h = ap levels_of (two_more bytes i h)
 
--- Two bytes or more begin with those of the next tick.
-pub levels_next : (bytes : List ℕ) → 2 ≤ length bytes →
-    levels_of bytes ≡ levels_at (slice_index bytes 0) (slice_index bytes 1) ∷ levels_of (take (length bytes - 2) (drop 2 bytes))
+-- Two bytes and the rest are the next tick and the rest of the ticks.
+pub levels_next : (all pair rest : List ℕ) → all ≡ pair ++ rest → length pair ≡ 2 →
+    levels_of all ≡ levels_at (slice_index pair 0) (slice_index pair 1) ∷ levels_of rest
 unfolding levels_of
-levels_next [] h = absurd (omega arith)
-levels_next (bits ∷ []) h = absurd (omega arith)
-levels_next (bits ∷ (jam ∷ rest)) h =
-    let n : length (bits ∷ (jam ∷ rest)) - 2 ≡ length rest = omega arith in
-    ap (λ r. levels_at bits jam ∷ levels_of r) (sym (rw n (take-length rest)))
+levels_next all [] rest e two = absurd (omega arith)
+levels_next all (bits ∷ []) rest e two = absurd (omega arith)
+levels_next all (bits ∷ (jam ∷ [])) rest e two = ap levels_of e
+levels_next all (bits ∷ (jam ∷ (more ∷ others))) rest e two = absurd (omega arith)
 
 pub levels_none : (bytes : List ℕ) → length bytes < 2 → levels_of bytes ≡ []
 unfolding levels_of

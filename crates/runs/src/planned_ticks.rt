@@ -40,9 +40,7 @@ impl Iterator for PlannedTicks<'_> {
 
     #[tactic(auto, using(crate::proofs::Pairs::levels_next, crate::proofs::Pairs::levels_none))]
     fn next(&mut self) -> Option<Levels> {
-        let [bits, jam, rest @ ..] = self.rest else {
-            return None;
-        };
+        let ([bits, jam], rest) = self.rest.split_first_chunk::<2>()?;
         self.rest = rest;
         Some(levels(*bits, *jam))
     }
