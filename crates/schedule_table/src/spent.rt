@@ -29,7 +29,7 @@ pub(crate) fn run_spent(rt: &HostRuntime) -> io::Result<bool> {
     board.card = FeedCard::new(&[88], &mut unused_too, 1, 8);
     let to_the_end = Schedule::Ticks(b"RRR", 0x05).bytes(heap)?;
     let gone_on = run_over(heap, &to_the_end, &mut machine, &key, &mut board)?;
-    judge(rt, &stopped, &again, &gone_on)
+    judge(rt, [stopped.as_str(), again.as_str(), gone_on.as_str()])
 }
 
 // What the three runs must answer.
@@ -40,11 +40,12 @@ const EXPECTED: [&str; 3] = [
 ];
 
 // Says whether the three runs answered as they must.
-fn judge(rt: &HostRuntime, stopped: &String, again: &String, gone_on: &String) -> io::Result<bool> {
-    let right = [stopped.as_str(), again.as_str(), gone_on.as_str()] == EXPECTED;
+fn judge(rt: &HostRuntime, came: [&str; 3]) -> io::Result<bool> {
+    let right = came == EXPECTED;
     if right {
         println!(rt; "a spent card, and then one fed anew: ok")?;
     } else {
+        let [stopped, again, gone_on] = came;
         println!(rt;
             "a spent card, and then one fed anew: WRONG came {stopped}, {again}, {gone_on}"
         )?;

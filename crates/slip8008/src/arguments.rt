@@ -1,6 +1,7 @@
+use crate::refusals::Refusal;
 use slips::{drive_ready, interrupt_at};
 use std::alloc::{AllocError, Global};
-use std::{env, io};
+use std::env;
 
 // The ticks of a schedule, where the arguments do not say how many.
 const TICKS: usize = 1_000;
@@ -27,8 +28,8 @@ struct Plan {
     interrupts: Vec<(usize, u8)>,
 }
 
-// The schedule that the program's arguments describe. Where they are bad it says so, and there is none.
-pub fn read(rt: &HostRuntime) -> io::Result<Option<Vec<u8>>> {
+// The schedule that the program's arguments describe.
+pub fn read(rt: &HostRuntime) -> Result<Vec<u8>, Refusal> {
     let mut plan = Plan {
         ticks: TICKS,
         low: 0,
@@ -39,15 +40,10 @@ pub fn read(rt: &HostRuntime) -> io::Result<Option<Vec<u8>>> {
             Some(Word::Ticks(count)) => plan.ticks = count,
             Some(Word::Low(count)) => plan.low = count,
             Some(Word::Interrupt(tick, jam)) => plan.interrupts.push((tick, jam))?,
-            None => {
-                println!(rt;
-                    "error: no such argument: {word} (use ticks=COUNT, low=COUNT, int=TICK:JAM)"
-                )?;
-                return Ok(None);
-            }
+            None => return Err(Refusal::NoSuchArgument(word)),
         }
     }
-    Ok(Some(plan.schedule(rt.alloc())?))
+    Ok(plan.schedule(rt.alloc())?)
 }
 
 impl Plan {

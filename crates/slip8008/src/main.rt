@@ -3,8 +3,10 @@
 #![tactic(auto)]
 
 mod arguments;
+mod refusals;
 
-use slips::make_slip;
+use refusals::Refusal;
+use slips::{Slip, make_slip};
 use std::io;
 use std::io::Read;
 
@@ -12,13 +14,17 @@ use std::io::Read;
 const TAPE: u64 = 60_000;
 
 fn main(rt: HostRuntime) -> io::Result<()> {
-    let Some(schedule) = arguments::read(&rt)? else {
-        return Ok(());
-    };
-    let mut tape = Vec::new(rt.alloc());
-    let _ = rt.stdin().take(TAPE).read_to_end(&mut tape)?;
-    match make_slip(rt.alloc(), &tape, &schedule) {
+    match run(&rt) {
         Ok(slip) => println!(rt; "{slip}"),
+        Err(Refusal::Failed(error)) => Err(error),
         Err(refusal) => println!(rt; "{refusal}"),
     }
+}
+
+// The slip of the tape that standard input has and of the schedule that the arguments describe.
+fn run(rt: &HostRuntime) -> Result<Slip, Refusal> {
+    let schedule = arguments::read(rt)?;
+    let mut tape = Vec::new(rt.alloc());
+    let _ = rt.stdin().take(TAPE).read_to_end(&mut tape)?;
+    Ok(make_slip(rt.alloc(), &tape, &schedule)?)
 }

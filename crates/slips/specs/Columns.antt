@@ -19,12 +19,8 @@ use Rattle.slips.specs.SideBySide.{fault_after}
 
 abbrev pub column_of : (instructions states waits idle in_hand ticks : ℕ) → View → Column
 column_of instructions states waits idle in_hand ticks v = record {
-  instructions = instructions;
-  table_states = states;
-  waits = waits;
-  idle = idle;
+  tally = record { accepted = ticks; instructions = instructions; table_states = states; waits = waits; idle = idle };
   in_hand = in_hand;
-  ticks = ticks;
   readout = readout_of v;
 }
 

@@ -16,12 +16,8 @@ impl Column {
         ensures { result ≡ column_of counts.instructions counts.table_states counts.waits counts.idle in_hand counts.accepted (view_of processor.now) }
     {
         Column {
-            instructions: counts.instructions,
-            table_states: counts.table_states,
-            waits: counts.waits,
-            idle: counts.idle,
+            tally: counts,
             in_hand,
-            ticks: counts.accepted,
             readout: Readout::of(processor),
         }
     }

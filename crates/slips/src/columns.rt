@@ -1,16 +1,14 @@
 use report::Readout;
 use runs::RunFault;
+use states::Tally;
 
 // What one engine came to: the instructions that ended and their table states, waits, idle states, the states in
 // hand, the ticks that all these make, and what the processor showed as the last instruction ended.
 #[derive(Clone, Copy, PartialEq, Eq, Debug)]
 pub struct Column {
-    pub instructions: u32,
-    pub table_states: u32,
-    pub waits: u32,
-    pub idle: u32,
+    // Its accepted ticks are the ticks that all the others make.
+    pub tally: Tally,
     pub in_hand: u8,
-    pub ticks: u32,
     pub readout: Readout,
 }
 

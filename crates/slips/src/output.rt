@@ -24,14 +24,15 @@ impl fmt::Display for Slip {
 
 impl Slip {
     fn write_counts<W: fmt::Write>(&self, f: &mut fmt::Formatter<W>) -> fmt::Result {
-        let (a, b) = (self.states, self.steps);
+        let (a, b) = (self.states.tally, self.steps.tally);
+        let (a_hand, b_hand) = (self.states.in_hand, self.steps.in_hand);
         for (name, a, b) in [
             ("instructions", a.instructions, b.instructions),
             ("table states", a.table_states, b.table_states),
             ("waits", a.waits, b.waits),
             ("idle states", a.idle, b.idle),
-            ("in hand", u32::from(a.in_hand), u32::from(b.in_hand)),
-            ("ticks", a.ticks, b.ticks),
+            ("in hand", u32::from(a_hand), u32::from(b_hand)),
+            ("ticks", a.accepted, b.accepted),
         ] {
             writeln!(f, "{name:<14}{a:>8}{b:>8}")?;
         }
