@@ -167,10 +167,11 @@ impl<S: Store> Panel<S> {
     {
         let answer = self.board.card.set_input(port, byte);
         let _ = self.step_board.card.set_input(port, byte);
-        match answer {
-            Ok(()) => (key, Answer::Latched(port, byte)),
-            Err(trouble) => (key, Answer::RefusedBy(Refusal::Port(trouble))),
-        }
+        let answer = answer.map_or_else(
+            |trouble| Answer::RefusedBy(Refusal::Port(trouble)),
+            |()| Answer::Latched(port, byte),
+        );
+        (key, answer)
     }
 
     // What the machine's processor holds.

@@ -35,9 +35,7 @@ fn read_bytes(text: &[u8], bytes: &mut Vec<u8>) -> Result<(), Mistake>
 fn split_byte(text: &[u8]) -> Result<(u8, &[u8]), Mistake>
     ensures { MatchResult result (λ cut. (first_byte text.now ≡ Some cut.0) × (cut.1.now ≡ drop 2 text.now)) (λ mistake. (mistake ≡ Mistake.BadSchedule) × (first_byte text.now ≡ None)) }
 {
-    let [high, low, others @ ..] = text else {
-        return Err(Mistake::BadSchedule);
-    };
+    let ([high, low], others) = text.split_first_chunk::<2>().ok_or(Mistake::BadSchedule)?;
     let byte = pair(*high, *low).ok_or(Mistake::BadSchedule)?;
     Ok((byte, others))
 }

@@ -53,8 +53,5 @@ fn read_latch(value: &[u8]) -> Option<Setting>
 fn after_mark(text: &[u8]) -> &[u8]
     ensures { result.now ≡ drop 1 text.now }
 {
-    match text {
-        [_, value @ ..] => value,
-        [] => text,
-    }
+    text.split_first().map_or(text, |(_, value)| value)
 }

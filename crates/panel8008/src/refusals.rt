@@ -24,6 +24,12 @@ impl From<io::Error> for Refusal {
     }
 }
 
+impl From<TapeRefusal> for Refusal {
+    fn from(refusal: TapeRefusal) -> Refusal {
+        Refusal::BadTape(refusal)
+    }
+}
+
 impl From<AllocError> for Refusal {
     fn from(error: AllocError) -> Refusal {
         Refusal::Failed(io::Error::from(error))

@@ -13,6 +13,6 @@ pub fn load(rt: &HostRuntime, path: String, memory: &mut [u8]) -> Result<(), Ref
     };
     let mut tape = Vec::new(rt.alloc());
     let _ = file.take(LONGEST).read_to_end(&mut tape)?;
-    let _ = read_tape(&tape, memory).map_err(Refusal::BadTape)?;
+    let _ = read_tape(&tape, memory)?;
     Ok(())
 }
