@@ -5,7 +5,7 @@ use Rattle.isa.specs.declared.conditions.Flags.{Flags}
 use Rattle.isa.specs.declared.register_file.Registers.{Registers}
 use Rattle.report.specs.Digits.{hex2, hex4}
 use Rattle.report.specs.declared.summary.Ending.{Ending}
-use Rattle.report.specs.declared.summary.Ending.TheVariants.{Halted, Spent, Refused}
+use Rattle.report.specs.declared.summary.Ending.TheVariants.{Halted, Spent, Refused, RefusedBy}
 use Rattle.report.specs.declared.summary.Report.{Report}
 use Rattle.report.specs.declared.readouts.Readout.{Readout}
 use Rattle.states.specs.declared.tallies.Tally.{Tally}
@@ -36,6 +36,7 @@ abbrev pub ending_text : Ending → List ℕ
 ending_text Halted = codes "halted"
 ending_text Spent = codes "spent"
 ending_text (Refused cause) = codes "refused " ⧺ decimal (cause_number cause)
+ending_text (RefusedBy number) = codes "refused " ⧺ decimal number
 
 -- what a processor shows
 abbrev pub readout_text : Readout → List ℕ

@@ -1,7 +1,8 @@
 // Numbers in hexadecimal, with capital digits and a fixed width.
-ghost use Rattle.std.specs.Prelude.{Some};
+ghost use Rattle.std.specs.Prelude.{◌≡◌, ◌<◌, [], ◌∷◌, Some};
 ghost use Rattle.std.specs.Fmt.{DisplaysOnOk};
-ghost use Rattle.report.specs.Digits.{hex2, hex4};
+ghost use Rattle.std.proofs.Math.Utf8.{encode};
+ghost use Rattle.report.specs.Digits.{hex_digit, hex2, hex4};
 
 use std::fmt;
 
@@ -31,9 +32,24 @@ impl fmt::Display for Hex4 {
     }
 }
 
-// Writes a byte as two digits.
+// Writes a byte as two digits. Each is a character: the library's `{byte:02X}`, which fills and aligns too, makes a line
+// of registers take a third more time.
 fn write_byte<W: fmt::Write>(f: &mut fmt::Formatter<W>, byte: u8) -> fmt::Result
     ensures { DisplaysOnOk W.write_str_gives f.old result (Some (hex2 byte)) f.new }
 {
-    write!(f, "{byte:02X}")
+    let high = hex_digit(byte / 16);
+    let low = hex_digit(byte % 16);
+    write!(f, "{high}{low}")
+}
+
+// The digit of a value below sixteen.
+fn hex_digit(value: u8) -> char
+    requires { value < 16 }
+    ensures { encode result ≡ hex_digit value ∷ [] }
+{
+    char::from(if value < 10 {
+        b'0' + value
+    } else {
+        b'A' + (value - 10)
+    })
 }

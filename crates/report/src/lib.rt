@@ -9,6 +9,6 @@ mod summary;
 
 pub use digits::{Hex2, Hex4};
 pub use fields::{FlagDigits, RegisterFields};
-pub use output::line;
+pub use output::{Outcome, line};
 pub use readouts::Readout;
 pub use summary::{Ending, Report};

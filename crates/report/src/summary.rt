@@ -13,6 +13,8 @@ pub enum Ending {
     Halted,
     Spent,
     Refused(Cause),
+    // It was refused for what is known by its number alone.
+    RefusedBy(u8),
 }
 
 // A refusal is shown by its number.
@@ -24,6 +26,7 @@ impl fmt::Display for Ending {
             Ending::Halted => f.write_str("halted"),
             Ending::Spent => f.write_str("spent"),
             Ending::Refused(cause) => write!(f, "refused {}", cause.number()),
+            Ending::RefusedBy(number) => write!(f, "refused {number}"),
         }
     }
 }

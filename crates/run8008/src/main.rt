@@ -2,6 +2,7 @@
 // processor did.
 #![tactic(auto)]
 
+use report::Outcome;
 use runner::run_tape;
 use std::io;
 use std::io::Read;
@@ -17,8 +18,6 @@ fn main(rt: HostRuntime) -> io::Result<()> {
     let mut tape = Vec::new(rt.alloc());
     let _ = rt.stdin().take(TAPE).read_to_end(&mut tape)?;
     let mut memory = vec![in rt.alloc(); 0u8; CELLS]?;
-    match run_tape(&tape, &mut memory) {
-        Ok(report) => println!(rt; "{report}"),
-        Err(refusal) => println!(rt; "{refusal}"),
-    }
+    let outcome = Outcome(run_tape(&tape, &mut memory));
+    println!(rt; "{outcome}")
 }
