@@ -24,7 +24,7 @@ use Rattle.panel.specs.declared.answers.Answer.{Answer}
 use Rattle.panel.specs.declared.answers.Answer.TheVariants.{Ticked as TickedSo, Refused, Ran as RanSo, BadSchedule as RefusedSchedule, Stepped as SteppedSo, Held, RefusedBy, Examined, Deposited, Latched, Holds, Mistaken}
 use Rattle.panel.specs.declared.holdings.Holding.{Holding}
 use Rattle.panel.specs.declared.refusals.Refusal.{Refusal}
-use Rattle.panel.specs.declared.refusals.Refusal.TheVariants.{InsideInstruction, Port}
+use Rattle.panel.specs.declared.refusals.Refusal.TheVariants.{InsideInstruction, Port, Numbered}
 use Rattle.panel.specs.declared.commands.Mistake.{Mistake}
 use Rattle.panel.specs.declared.commands.Mistake.TheVariants.{NoSuchCommand, BadNumber, TooManyWords, BadSchedule, IsHeld, IsNotHeld, NoMemory}
 
@@ -127,10 +127,11 @@ reason_text NoMemory = codes "out of memory"
 abbrev pub mistake_text : Mistake → List ℕ
 mistake_text m = codes "error: " ⧺ reason_text m
 
--- The number of a refused hold or input: 4 inside an instruction, and else that of its port's trouble.
+-- The number of a refused hold or input: 4 inside an instruction, that of its port's trouble, or the number itself.
 abbrev pub refused_number : Refusal → ℕ
 refused_number InsideInstruction = 4
 refused_number (Port trouble) = trouble_number trouble
+refused_number (Numbered number) = number
 
 abbrev pub answer_text : Answer → List ℕ
 answer_text (TickedSo t) = ticked_text t

@@ -10,6 +10,8 @@ pub enum Refusal {
     InsideInstruction,
     // An input: its port is no input port of the card.
     Port(Trouble),
+    // What is known by its number alone.
+    Numbered(u8),
 }
 
 impl Refusal {
@@ -20,6 +22,7 @@ impl Refusal {
         match self {
             Refusal::InsideInstruction => 4,
             Refusal::Port(trouble) => trouble.number(),
+            Refusal::Numbered(number) => number,
         }
     }
 }

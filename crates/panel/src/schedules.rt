@@ -5,7 +5,7 @@ ghost use Rattle.panel.specs.Schedules.{Put, bytes_of, first_byte, paired, sched
 
 use crate::commands::Mistake;
 use crate::numbers::digit_value;
-use crate::words::{first_word, skip_blanks};
+use crate::words::{Gap, first_word, is_gap};
 
 // Puts the schedule of a line of `run` into `schedule`, in the place of what it held: each two digits in a row are
 // a byte, and blanks may stand between bytes. The buffer is lent, so that a schedule as long as the last needs no memory.
@@ -22,11 +22,15 @@ fn read_bytes(text: &[u8], bytes: &mut Vec<u8>) -> Result<(), Mistake>
     requires { bytes.old.items ≡ [] }
     ensures { Put result bytes.new.items (bytes_of text.now) }
 {
-    let mut left = skip_blanks(text);
-    while !left.is_empty() {
-        let (byte, others) = split_byte(left)?;
-        bytes.push(byte)?;
-        left = skip_blanks(others);
+    let mut left = text;
+    while let [first, others @ ..] = left {
+        if is_gap(Gap::Blank, *first) {
+            left = others;
+        } else {
+            let (byte, others) = split_byte(left)?;
+            bytes.push(byte)?;
+            left = others;
+        }
     }
     Ok(())
 }

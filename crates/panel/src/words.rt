@@ -103,7 +103,7 @@ pub(crate) fn cut(text: &[u8], gap: Gap) -> (&[u8], &[u8])
 }
 
 // A text from its first byte on that is no blank. The library's `trim_ascii_start` also takes form feeds off.
-pub(crate) fn skip_blanks(text: &[u8]) -> &[u8]
+fn skip_blanks(text: &[u8]) -> &[u8]
     ensures { result.now ≡ after_blanks text.now }
 {
     let mut left = text;
@@ -121,7 +121,7 @@ fn gap_place(text: &[u8], gap: Gap) -> Option<usize>
 }
 
 // Whether a byte is such a gap.
-fn is_gap(gap: Gap, byte: u8) -> bool
+pub(crate) fn is_gap(gap: Gap, byte: u8) -> bool
     ensures { result ≡ is_gap gap byte }
 {
     match gap {
