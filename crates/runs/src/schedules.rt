@@ -54,8 +54,9 @@ pub fn levels_at(schedule: &[u8], tick: usize) -> Levels
     ensures within { tick < length schedule.now / 2 → result ≡ levels_at (slice_index schedule.now (2 * tick)) (slice_index schedule.now (2 * tick + 1)) }
     ensures past { length schedule.now / 2 ≤ tick → result ≡ levels_at 0 0 }
 {
-    match schedule.chunks_exact(2).nth(tick) {
-        Some([bits, jam]) => levels(*bits, *jam),
-        _ => levels(0, 0),
+    // By index: the library's `nth` of chunks goes through all that lie before.
+    if tick >= schedule.len() / 2 {
+        return levels(0, 0);
     }
+    levels(schedule[2 * tick], schedule[2 * tick + 1])
 }
